@@ -1,0 +1,7 @@
+pub mod Settings
+pub mod Coefficients
+pub mod Blend
+pub mod Component
+pub mod Picture
+pub mod Questions
+pub mod Distance
