@@ -1,0 +1,4 @@
+pub mod Table
+pub mod Rule
+pub mod Lookup
+pub mod Nearest
