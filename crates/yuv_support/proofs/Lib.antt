@@ -1,1 +1,5 @@
 pub mod Depths
+pub mod Overlay
+pub mod Rows
+pub mod Picture
+pub mod Questions

@@ -78,10 +78,9 @@ decoded c = record {
 abbrev pub samplingKnown : ℕ → Question
 samplingKnown sampling = ask 1 (leb sampling 1)
 
--- 2, `known` being the depths of the element's width
-abbrev pub codesKnown : List ℕ → Codes → Question
-codesKnown known c =
-    ask 2 (leb (c .order) 3 && (leb (c .range) 1 && (leb (c .matrix) 6 && among (c .depth) known)))
+-- 2; which depths are known is a matter of the element's width
+abbrev pub codesKnown : Bool → Codes → Question
+codesKnown depthKnown c = ask 2 (leb (c .order) 3 && (leb (c .range) 1 && (leb (c .matrix) 6 && depthKnown)))
 
 -- 3 and 4
 abbrev pub sides : ℕ → ℕ → List Question
@@ -118,17 +117,21 @@ rowBelow row height = ask 14 (ltb row height)
 -- ---- who is asked what
 
 -- a conversion: 1 to 13
-unfoldable pub conversionQuestions : List ℕ → Request → List Question
-conversionQuestions known q =
+unfoldable pub questionsOf : Bool → Request → List Question
+questionsOf depthKnown q =
     let s = decoded (q .codes) in
     let i = q .image in
     samplingKnown (q .codes .sampling)
-    ∷ codesKnown known (q .codes)
+    ∷ codesKnown depthKnown (q .codes)
     ∷ (sides (i .width) (i .height)
     ++ destination (q .rgb) (i .width * channelsOf (s .order)) (i .height)
     ++ plane 7 (extent (q .y-length) (i .«y_stride»)) (i .width) (i .height)
     ++ chromaPlanes (s .sampling) (i .width) (i .height) (extent (q .u-length) (i .«u_stride»)) (extent (q .v-length) (i .«v_stride»))
     ++ weightsUsable s ∷ [])
+
+-- the same, `known` being the depths of the element's width
+abbrev pub conversionQuestions : List ℕ → Request → List Question
+conversionQuestions known q = questionsOf (among (q .codes .depth) known) q
 
 -- the settings used: 2 for the depth, the range and the matrix, and 13
 unfoldable pub settingsQuestions : ℕ → ℕ → ℕ → Float → Float → List ℕ → List Question
