@@ -9,8 +9,9 @@ use lib.ListN.{getD}
 use Rattle.yuv_support.specs.declared.CbCrInverseTransform.{CbCrInverseTransform}
 use Rattle.yuv_support.specs.Settings.{maxOf, rangeY, rangeC, weightR, weightB, weightG}
 use Rattle.yuv_support.specs.Coefficients.{exactY, exactOuter, exactInner, storedOf}
+use Rattle.yuv_support.proofs.Tests.{both}
 use Rattle.built_coefficients.specs.Built.{rowAt}
-use Rattle.built_coefficients.proofs.Table.{first, second, every-at}
+use Rattle.built_coefficients.proofs.Table.{every-at}
 
 abbrev pub rows : List (List ℕ)
 rows =
@@ -50,18 +51,11 @@ same a b = eqb (a .y) (b .y) && (eqb (a .cr) (b .cr) && (eqb (a .cb) (b .cb) && 
 same-is : (a b : CbCrInverseTransform) → T (same a b) → a ≡ b
 unfolding same
 same-is a b h =
-    let t3 = eqb (a .g1) (b .g1) && eqb (a .g2) (b .g2) in
-    let t2 = eqb (a .cb) (b .cb) && t3 in
-    let t1 = eqb (a .cr) (b .cr) && t2 in
-    let h1 = second (eqb (a .y) (b .y)) t1 h in
-    let h2 = second (eqb (a .cr) (b .cr)) t2 h1 in
-    let h3 = second (eqb (a .cb) (b .cb)) t3 h2 in
-    let y : a .y ≡ b .y = eqb→eq (a .y) (b .y) (first (eqb (a .y) (b .y)) t1 h) in
-    let cr : a .cr ≡ b .cr = eqb→eq (a .cr) (b .cr) (first (eqb (a .cr) (b .cr)) t2 h1) in
-    let cb : a .cb ≡ b .cb = eqb→eq (a .cb) (b .cb) (first (eqb (a .cb) (b .cb)) t3 h2) in
-    let g1 : a .g1 ≡ b .g1 = eqb→eq (a .g1) (b .g1) (first (eqb (a .g1) (b .g1)) (eqb (a .g2) (b .g2)) h3) in
-    let g2 : a .g2 ≡ b .g2 = eqb→eq (a .g2) (b .g2) (second (eqb (a .g1) (b .g1)) (eqb (a .g2) (b .g2)) h3) in
-    fields y cr cb g1 g2
+    let h1 = both (eqb (a .y) (b .y)) _ h in
+    let h2 = both (eqb (a .cr) (b .cr)) _ (h1 .1) in
+    let h3 = both (eqb (a .cb) (b .cb)) _ (h2 .1) in
+    let h4 = both (eqb (a .g1) (b .g1)) _ (h3 .1) in
+    fields (eqb→eq _ _ (h1 .0)) (eqb→eq _ _ (h2 .0)) (eqb→eq _ _ (h3 .0)) (eqb→eq _ _ (h4 .0)) (eqb→eq _ _ (h4 .1))
 
 right : ℕ → List ℕ → Bool
 right k row = same (transformOf row) (rowAt k)

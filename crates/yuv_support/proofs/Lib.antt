@@ -1,4 +1,10 @@
 pub mod Depths
+pub mod Tests
+pub mod Sign
+pub mod Blend
+pub mod Coefficients
+pub mod Rounding
+pub mod Distance
 pub mod Overlay
 pub mod Rows
 pub mod Picture

@@ -118,6 +118,6 @@ chroma16 s f ch row column =
     (chromaSample s f ch far (column / 2))
     (chromaSample s f ch far (column / 2 + 1))
 
--- the whole chroma sample that n sixteenths make: document 01's (3a+b+2)/4, (9a+3b+3c+e+8)/16 and tails (Laws.Blend proves each)
+-- the whole chroma sample that n sixteenths make: document 01's (3a+b+2)/4, (9a+3b+3c+e+8)/16 and tails (proofs/Blend.antt proves each)
 abbrev pub rounded : ℕ → ℕ
 rounded n = (n + 8) / 16
