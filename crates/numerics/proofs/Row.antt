@@ -62,3 +62,137 @@ module _ (k : Kernel) (n : ℕ) (y pn pf qn qf : List ℕ) where
       ap pairsValue e
       ∙ letter-at k n (at y) (pairChroma pn pf) (pairChroma qn qf) (2 * j + 1) i h
       ∙ rw (right-chroma pn pf j, right-chroma qn qf j)
+
+-- ---- a turn of the pairs
+
+-- a run of stores of 2·n values of pair j, at n letters
+module _ (g : ℕ → ℕ) (n j : ℕ) (xs row row′ vs : List ℕ) where
+  pub run-turn : length vs ≡ 2 * n → 2 * n * j + 2 * n ≤ length xs → ((i : ℕ) → i < length vs → getD vs i 0 ≡ g (2 * n * j + i))
+      → row ≡ overlay (upTo (2 * n * j) g) 0 xs → row′ ≡ sets row (2 * n * j) vs → row′ ≡ overlay (upTo (2 * n * (j + 1)) g) 0 xs
+  run-turn l fits e er er′ =
+      let q : 2 * n * j + length vs ≡ 2 * n * (j + 1) = rw l (omega arith) in
+      rw (er′, er) (up-sets g xs vs (2 * n * j) (rw l fits) e ∙ ap (λ (m : ℕ). overlay (upTo m g) 0 xs) q)
+
+module _ (k : Kernel) (y pn pf qn qf : List ℕ) (j : ℕ) where
+  abbrev pub pair4 : List ℕ
+  pair4 = four k (at y (2 * j)) (leftOf pn pf j) (leftOf qn qf j) ++ four k (at y (2 * j + 1)) (rightOf pn pf j) (rightOf qn qf j)
+
+  abbrev pub pair3 : List ℕ
+  pair3 = three k (at y (2 * j)) (leftOf pn pf j) (leftOf qn qf j) ++ three k (at y (2 * j + 1)) (rightOf pn pf j) (rightOf qn qf j)
+
+  values4 : Values (λ i. pairsValue k 4 y pn pf qn qf (8 * j + i)) pair4
+  unfolding letterOf
+  values4 =
+      let l = at-left k 4 y pn pf qn qf j in
+      let r = at-right k 4 y pn pf qn qf j in
+      (sym (l 0 (lit< tt)), (sym (l 1 (lit< tt)), (sym (l 2 (lit< tt)), (sym (l 3 (lit< tt)), (sym (r 0 (lit< tt)), (sym (r 1 (lit< tt)), (sym (r 2 (lit< tt)), (sym (r 3 (lit< tt)), tt))))))))
+
+  values3 : Values (λ i. pairsValue k 3 y pn pf qn qf (6 * j + i)) pair3
+  unfolding letterOf
+  values3 =
+      let l = at-left k 3 y pn pf qn qf j in
+      let r = at-right k 3 y pn pf qn qf j in
+      (sym (l 0 (lit< tt)), (sym (l 1 (lit< tt)), (sym (l 2 (lit< tt)), (sym (r 0 (lit< tt)), (sym (r 1 (lit< tt)), (sym (r 2 (lit< tt)), tt))))))
+
+  module _ (xs row row′ : List ℕ) where
+    pub pair-turn4 : 8 * j + 8 ≤ length xs → row ≡ overlay (upTo (8 * j) (pairsValue k 4 y pn pf qn qf)) 0 xs → row′ ≡ sets row (8 * j) pair4
+        → row′ ≡ overlay (upTo (8 * (j + 1)) (pairsValue k 4 y pn pf qn qf)) 0 xs
+    pair-turn4 fits = run-turn (pairsValue k 4 y pn pf qn qf) 4 j xs row row′ pair4 refl fits (value-at _ pair4 values4)
+
+    pub pair-turn3 : 6 * j + 6 ≤ length xs → row ≡ overlay (upTo (6 * j) (pairsValue k 3 y pn pf qn qf)) 0 xs → row′ ≡ sets row (6 * j) pair3
+        → row′ ≡ overlay (upTo (6 * (j + 1)) (pairsValue k 3 y pn pf qn qf)) 0 xs
+    pair-turn3 fits = run-turn (pairsValue k 3 y pn pf qn qf) 3 j xs row row′ pair3 refl fits (value-at _ pair3 values3)
+
+-- ---- a turn of the tail, which begins at column `from` with the row xs
+
+module _ (k : Kernel) (n : ℕ) (y : List ℕ) (p q : ℕ) where
+  -- what a row of one chroma pair holds
+  abbrev pub tailValue : ℕ → ℕ
+  tailValue = rowValue k n (at y) (λ column. p) (λ column. q)
+
+module _ (a : ℕ) (h : ℕ → ℕ) (xs : List ℕ) where
+  pub tail-none : xs ≡ overlay (upTo a (resumed a h xs)) 0 xs
+  tail-none = is-overlay (upTo a (resumed a h xs)) xs xs refl (λ x b. at-place x (below-or-not x a))
+    where
+      at-place : (x : ℕ) → (x < a) ⊎ (a ≤ x) → getD xs x 0 ≡ upTo a (resumed a h xs) x (getD xs x 0)
+      at-place x (inl lo) = rw (lt-ltb x a lo)
+      at-place x (inr hi) = rw (le-ltb x a hi)
+
+  -- a run of stores from place i on, at or after place a
+  pub tail-more : (i : ℕ) (row row′ vs : List ℕ) → a ≤ i → i + length vs ≤ length xs → ((k : ℕ) → k < length vs → getD vs k 0 ≡ h (i + k))
+      → row ≡ overlay (upTo i (resumed a h xs)) 0 xs → row′ ≡ sets row i vs → row′ ≡ overlay (upTo (i + length vs) (resumed a h xs)) 0 xs
+  tail-more i row row′ vs l fits e er er′ =
+      rw (er′, er) (up-sets (resumed a h xs) xs vs i fits (λ k b. e k b ∙ rw (le-ltb (i + k) a (omega arith))))
+
+module _ (k : Kernel) (y : List ℕ) (p q from column : ℕ) (xs row row′ : List ℕ) (begun : from ≤ column) where
+  pub tail-turn4 : 4 * column + 4 ≤ length xs → row ≡ overlay (upTo (4 * column) (resumed (4 * from) (tailValue k 4 y p q) xs)) 0 xs
+      → row′ ≡ sets row (4 * column) (four k (at y column) p q)
+      → row′ ≡ overlay (upTo (4 * (column + 1)) (resumed (4 * from) (tailValue k 4 y p q) xs)) 0 xs
+  unfolding letterOf
+  tail-turn4 fits er er′ =
+      let l : (i : ℕ) → i < 4 → tailValue k 4 y p q (4 * column + i) ≡ letterOf k (at y column) p q i =
+      λ i h. ap (tailValue k 4 y p q) (let e : 4 * column + i ≡ column * 4 + i = omega arith in e) ∙ letter-at k 4 (at y) (λ c. p) (λ c. q) column i h in
+      let q′ : 4 * column + 4 ≡ 4 * (column + 1) = omega arith in
+      tail-more (4 * from) (tailValue k 4 y p q) xs (4 * column) row row′ (four k (at y column) p q) (omega arith) fits
+      (value-at (λ i. tailValue k 4 y p q (4 * column + i)) (four k (at y column) p q)
+      (sym (l 0 (lit< tt)), (sym (l 1 (lit< tt)), (sym (l 2 (lit< tt)), (sym (l 3 (lit< tt)), tt))))) er er′
+      ∙ ap (λ (m : ℕ). overlay (upTo m (resumed (4 * from) (tailValue k 4 y p q) xs)) 0 xs) q′
+
+  pub tail-turn3 : 3 * column + 3 ≤ length xs → row ≡ overlay (upTo (3 * column) (resumed (3 * from) (tailValue k 3 y p q) xs)) 0 xs
+      → row′ ≡ sets row (3 * column) (three k (at y column) p q)
+      → row′ ≡ overlay (upTo (3 * (column + 1)) (resumed (3 * from) (tailValue k 3 y p q) xs)) 0 xs
+  unfolding letterOf
+  tail-turn3 fits er er′ =
+      let l : (i : ℕ) → i < 3 → tailValue k 3 y p q (3 * column + i) ≡ letterOf k (at y column) p q i =
+      λ i h. ap (tailValue k 3 y p q) (let e : 3 * column + i ≡ column * 3 + i = omega arith in e) ∙ letter-at k 3 (at y) (λ c. p) (λ c. q) column i h in
+      let q′ : 3 * column + 3 ≡ 3 * (column + 1) = omega arith in
+      tail-more (3 * from) (tailValue k 3 y p q) xs (3 * column) row row′ (three k (at y column) p q) (omega arith) fits
+      (value-at (λ i. tailValue k 3 y p q (3 * column + i)) (three k (at y column) p q)
+      (sym (l 0 (lit< tt)), (sym (l 1 (lit< tt)), (sym (l 2 (lit< tt)), tt)))) er er′
+      ∙ ap (λ (m : ℕ). overlay (upTo m (resumed (3 * from) (tailValue k 3 y p q) xs)) 0 xs) q′
+
+-- ---- the pairs and the tail together
+
+module _ (k : Kernel) (n width : ℕ) (some : 0 < n) (y pn pf qn qf : List ℕ) (tp tq : ℕ) where
+  -- what the whole row holds
+  abbrev pub wholeValue : ℕ → ℕ
+  wholeValue = rowValue k n (at y) (rowChroma width pn pf tp) (rowChroma width qn qf tq)
+
+  abbrev pairs : ℕ
+  pairs = chromaWidth width - 1
+
+  of-pairs : (x : ℕ) → x < 2 * n * pairs → pairsValue k n y pn pf qn qf x ≡ wholeValue x
+  unfolding rowValue rowChroma
+  of-pairs x h =
+      let c : x / n < 2 * pairs = div-lt-iff-lt-mul some .1 (let l : x < 2 * pairs * n = omega arith in l) in
+      let t : ltb (x / n / 2 + 1) (chromaWidth width) ≡ true = lt-ltb _ _ (column-of-pairs (x / n) c) in
+      rw t
+    where
+      column-of-pairs : (c : ℕ) → c < 2 * pairs → c / 2 + 1 < chromaWidth width
+      column-of-pairs c h = omega arith
+
+  of-tail : (x : ℕ) → 2 * n * pairs ≤ x → tailValue k n y tp tq x ≡ wholeValue x
+  unfolding rowValue rowChroma
+  of-tail x h =
+      let c : 2 * pairs ≤ x / n = le-div-iff-mul-le some .1 (let l : 2 * pairs * n ≤ x = omega arith in l) in
+      let t : ltb (x / n / 2 + 1) (chromaWidth width) ≡ false = le-ltb _ _ (column-of-tail (x / n) c) in
+      rw t
+    where
+      column-of-tail : (c : ℕ) → 2 * pairs ≤ c → chromaWidth width ≤ c / 2 + 1
+      column-of-tail c h = omega arith
+
+  pub row-joined : (xs row row′ : List ℕ) → length xs ≡ n * width
+      → row ≡ overlay (upTo (2 * n * pairs) (pairsValue k n y pn pf qn qf)) 0 xs
+      → row′ ≡ overlay (upTo (n * width) (resumed (2 * n * pairs) (tailValue k n y tp tq) row)) 0 row
+      → row′ ≡ rowOf (λ r. wholeValue) 0 xs
+  row-joined xs row row′ l er er′ =
+      is-overlay (λ x old. wholeValue x) xs row′ (ap length er′ ∙ overlay-length _ 0 row ∙ lr)
+      (λ x b. rw er′ (overlay-at _ row x (rw lr b) ∙ rw (lt-ltb x (n * width) (rw l at b)) (at-place x b (below-or-not x (2 * n * pairs)))))
+    where
+      lr : length row ≡ length xs
+      lr = ap length er ∙ overlay-length _ 0 xs
+
+      at-place : (x : ℕ) → x < length xs → (x < 2 * n * pairs) ⊎ (2 * n * pairs ≤ x)
+          → resumed (2 * n * pairs) (tailValue k n y tp tq) row x ≡ wholeValue x
+      at-place x b (inl lo) = rw (lt-ltb x (2 * n * pairs) lo, er) (overlay-at _ xs x b ∙ rw (lt-ltb x (2 * n * pairs) lo) (of-pairs x lo))
+      at-place x b (inr hi) = rw (le-ltb x (2 * n * pairs) hi) (of-tail x hi)
