@@ -14,11 +14,11 @@ use lib.Dec.{eqb, ltb, lit<}
 use lib.ListN.{length, getD}
 use lib.Seq.{sets}
 use Rattle.yuv_support.specs.Blend.{chromaWidth}
-use Rattle.yuv_support.specs.Picture.{overlay, rowOf}
-use Rattle.yuv_support.proofs.Overlay.{overlay-length, overlay-at, is-overlay, upTo, up-sets, value-at, Values, below-or-not}
+use Rattle.yuv_support.specs.Picture.{overlay, upTo, rowOf}
+use Rattle.yuv_support.proofs.Overlay.{overlay-length, overlay-at, is-overlay, up-sets, value-at, Values, below-or-not}
 use Rattle.numerics.specs.declared.Kernel.{Kernel}
 use Rattle.numerics.specs.Kernel.{letterOf}
-use Rattle.numerics.specs.Row.{rowValue, at, leftOf, rightOf, pairChroma, rowChroma, three, four, resumed}
+use Rattle.numerics.specs.Row.{rowValue, at, leftOf, rightOf, pairChroma, rowChroma, three, four, pair3, pair4, pairsValue, tailValue, wholeValue, resumed}
 
 -- ---- the letters of a pixel are the values at its places
 
@@ -45,21 +45,17 @@ module _ (near far : List ℕ) (j : ℕ) where
       rw (m, d)
 
 module _ (k : Kernel) (n : ℕ) (y pn pf qn qf : List ℕ) where
-  -- what the pairs of a row hold
-  abbrev pub pairsValue : ℕ → ℕ
-  pairsValue = rowValue k n (at y) (pairChroma pn pf) (pairChroma qn qf)
-
-  at-left : (j i : ℕ) → i < n → pairsValue (2 * n * j + i) ≡ letterOf k (at y (2 * j)) (leftOf pn pf j) (leftOf qn qf j) i
+  at-left : (j i : ℕ) → i < n → pairsValue k n y pn pf qn qf (2 * n * j + i) ≡ letterOf k (at y (2 * j)) (leftOf pn pf j) (leftOf qn qf j) i
   at-left j i h =
       let e : 2 * n * j + i ≡ 2 * j * n + i = omega arith in
-      ap pairsValue e
+      ap (pairsValue k n y pn pf qn qf) e
       ∙ letter-at k n (at y) (pairChroma pn pf) (pairChroma qn qf) (2 * j) i h
       ∙ rw (left-chroma pn pf j, left-chroma qn qf j)
 
-  at-right : (j i : ℕ) → i < n → pairsValue (2 * n * j + (n + i)) ≡ letterOf k (at y (2 * j + 1)) (rightOf pn pf j) (rightOf qn qf j) i
+  at-right : (j i : ℕ) → i < n → pairsValue k n y pn pf qn qf (2 * n * j + (n + i)) ≡ letterOf k (at y (2 * j + 1)) (rightOf pn pf j) (rightOf qn qf j) i
   at-right j i h =
       let e : 2 * n * j + (n + i) ≡ (2 * j + 1) * n + i = omega arith in
-      ap pairsValue e
+      ap (pairsValue k n y pn pf qn qf) e
       ∙ letter-at k n (at y) (pairChroma pn pf) (pairChroma qn qf) (2 * j + 1) i h
       ∙ rw (right-chroma pn pf j, right-chroma qn qf j)
 
@@ -74,20 +70,14 @@ module _ (g : ℕ → ℕ) (n j : ℕ) (xs row row′ vs : List ℕ) where
       rw (er′, er) (up-sets g xs vs (2 * n * j) (rw l fits) e ∙ ap (λ (m : ℕ). overlay (upTo m g) 0 xs) q)
 
 module _ (k : Kernel) (y pn pf qn qf : List ℕ) (j : ℕ) where
-  abbrev pub pair4 : List ℕ
-  pair4 = four k (at y (2 * j)) (leftOf pn pf j) (leftOf qn qf j) ++ four k (at y (2 * j + 1)) (rightOf pn pf j) (rightOf qn qf j)
-
-  abbrev pub pair3 : List ℕ
-  pair3 = three k (at y (2 * j)) (leftOf pn pf j) (leftOf qn qf j) ++ three k (at y (2 * j + 1)) (rightOf pn pf j) (rightOf qn qf j)
-
-  values4 : Values (λ i. pairsValue k 4 y pn pf qn qf (8 * j + i)) pair4
+  values4 : Values (λ i. pairsValue k 4 y pn pf qn qf (8 * j + i)) (pair4 k y pn pf qn qf j)
   unfolding letterOf
   values4 =
       let l = at-left k 4 y pn pf qn qf j in
       let r = at-right k 4 y pn pf qn qf j in
       (sym (l 0 (lit< tt)), (sym (l 1 (lit< tt)), (sym (l 2 (lit< tt)), (sym (l 3 (lit< tt)), (sym (r 0 (lit< tt)), (sym (r 1 (lit< tt)), (sym (r 2 (lit< tt)), (sym (r 3 (lit< tt)), tt))))))))
 
-  values3 : Values (λ i. pairsValue k 3 y pn pf qn qf (6 * j + i)) pair3
+  values3 : Values (λ i. pairsValue k 3 y pn pf qn qf (6 * j + i)) (pair3 k y pn pf qn qf j)
   unfolding letterOf
   values3 =
       let l = at-left k 3 y pn pf qn qf j in
@@ -95,20 +85,15 @@ module _ (k : Kernel) (y pn pf qn qf : List ℕ) (j : ℕ) where
       (sym (l 0 (lit< tt)), (sym (l 1 (lit< tt)), (sym (l 2 (lit< tt)), (sym (r 0 (lit< tt)), (sym (r 1 (lit< tt)), (sym (r 2 (lit< tt)), tt))))))
 
   module _ (xs row row′ : List ℕ) where
-    pub pair-turn4 : 8 * j + 8 ≤ length xs → row ≡ overlay (upTo (8 * j) (pairsValue k 4 y pn pf qn qf)) 0 xs → row′ ≡ sets row (8 * j) pair4
+    pub pair-turn4 : 8 * j + 8 ≤ length xs → row ≡ overlay (upTo (8 * j) (pairsValue k 4 y pn pf qn qf)) 0 xs → row′ ≡ sets row (8 * j) (pair4 k y pn pf qn qf j)
         → row′ ≡ overlay (upTo (8 * (j + 1)) (pairsValue k 4 y pn pf qn qf)) 0 xs
-    pair-turn4 fits = run-turn (pairsValue k 4 y pn pf qn qf) 4 j xs row row′ pair4 refl fits (value-at _ pair4 values4)
+    pair-turn4 fits = run-turn (pairsValue k 4 y pn pf qn qf) 4 j xs row row′ (pair4 k y pn pf qn qf j) refl fits (value-at _ (pair4 k y pn pf qn qf j) values4)
 
-    pub pair-turn3 : 6 * j + 6 ≤ length xs → row ≡ overlay (upTo (6 * j) (pairsValue k 3 y pn pf qn qf)) 0 xs → row′ ≡ sets row (6 * j) pair3
+    pub pair-turn3 : 6 * j + 6 ≤ length xs → row ≡ overlay (upTo (6 * j) (pairsValue k 3 y pn pf qn qf)) 0 xs → row′ ≡ sets row (6 * j) (pair3 k y pn pf qn qf j)
         → row′ ≡ overlay (upTo (6 * (j + 1)) (pairsValue k 3 y pn pf qn qf)) 0 xs
-    pair-turn3 fits = run-turn (pairsValue k 3 y pn pf qn qf) 3 j xs row row′ pair3 refl fits (value-at _ pair3 values3)
+    pair-turn3 fits = run-turn (pairsValue k 3 y pn pf qn qf) 3 j xs row row′ (pair3 k y pn pf qn qf j) refl fits (value-at _ (pair3 k y pn pf qn qf j) values3)
 
 -- ---- a turn of the tail, which begins at column `from` with the row xs
-
-module _ (k : Kernel) (n : ℕ) (y : List ℕ) (p q : ℕ) where
-  -- what a row of one chroma pair holds
-  abbrev pub tailValue : ℕ → ℕ
-  tailValue = rowValue k n (at y) (λ column. p) (λ column. q)
 
 module _ (a : ℕ) (h : ℕ → ℕ) (xs : List ℕ) where
   pub tail-none : xs ≡ overlay (upTo a (resumed a h xs)) 0 xs
@@ -154,14 +139,10 @@ module _ (k : Kernel) (y : List ℕ) (p q from column : ℕ) (xs row row′ : Li
 -- ---- the pairs and the tail together
 
 module _ (k : Kernel) (n width : ℕ) (some : 0 < n) (y pn pf qn qf : List ℕ) (tp tq : ℕ) where
-  -- what the whole row holds
-  abbrev pub wholeValue : ℕ → ℕ
-  wholeValue = rowValue k n (at y) (rowChroma width pn pf tp) (rowChroma width qn qf tq)
-
   abbrev pairs : ℕ
   pairs = chromaWidth width - 1
 
-  of-pairs : (x : ℕ) → x < 2 * n * pairs → pairsValue k n y pn pf qn qf x ≡ wholeValue x
+  of-pairs : (x : ℕ) → x < 2 * n * pairs → pairsValue k n y pn pf qn qf x ≡ wholeValue k n width y pn pf qn qf tp tq x
   unfolding rowValue rowChroma
   of-pairs x h =
       let c : x / n < 2 * pairs = div-lt-iff-lt-mul some .1 (let l : x < 2 * pairs * n = omega arith in l) in
@@ -171,7 +152,7 @@ module _ (k : Kernel) (n width : ℕ) (some : 0 < n) (y pn pf qn qf : List ℕ) 
       column-of-pairs : (c : ℕ) → c < 2 * pairs → c / 2 + 1 < chromaWidth width
       column-of-pairs c h = omega arith
 
-  of-tail : (x : ℕ) → 2 * n * pairs ≤ x → tailValue k n y tp tq x ≡ wholeValue x
+  of-tail : (x : ℕ) → 2 * n * pairs ≤ x → tailValue k n y tp tq x ≡ wholeValue k n width y pn pf qn qf tp tq x
   unfolding rowValue rowChroma
   of-tail x h =
       let c : 2 * pairs ≤ x / n = le-div-iff-mul-le some .1 (let l : 2 * pairs * n ≤ x = omega arith in l) in
@@ -184,15 +165,15 @@ module _ (k : Kernel) (n width : ℕ) (some : 0 < n) (y pn pf qn qf : List ℕ) 
   pub row-joined : (xs row row′ : List ℕ) → length xs ≡ n * width
       → row ≡ overlay (upTo (2 * n * pairs) (pairsValue k n y pn pf qn qf)) 0 xs
       → row′ ≡ overlay (upTo (n * width) (resumed (2 * n * pairs) (tailValue k n y tp tq) row)) 0 row
-      → row′ ≡ rowOf (λ r. wholeValue) 0 xs
+      → row′ ≡ rowOf (λ r. wholeValue k n width y pn pf qn qf tp tq) 0 xs
   row-joined xs row row′ l er er′ =
-      is-overlay (λ x old. wholeValue x) xs row′ (ap length er′ ∙ overlay-length _ 0 row ∙ lr)
+      is-overlay (λ x old. wholeValue k n width y pn pf qn qf tp tq x) xs row′ (ap length er′ ∙ overlay-length _ 0 row ∙ lr)
       (λ x b. rw er′ (overlay-at _ row x (rw lr b) ∙ rw (lt-ltb x (n * width) (rw l at b)) (at-place x b (below-or-not x (2 * n * pairs)))))
     where
       lr : length row ≡ length xs
       lr = ap length er ∙ overlay-length _ 0 xs
 
       at-place : (x : ℕ) → x < length xs → (x < 2 * n * pairs) ⊎ (2 * n * pairs ≤ x)
-          → resumed (2 * n * pairs) (tailValue k n y tp tq) row x ≡ wholeValue x
+          → resumed (2 * n * pairs) (tailValue k n y tp tq) row x ≡ wholeValue k n width y pn pf qn qf tp tq x
       at-place x b (inl lo) = rw (lt-ltb x (2 * n * pairs) lo, er) (overlay-at _ xs x b ∙ rw (lt-ltb x (2 * n * pairs) lo) (of-pairs x lo))
       at-place x b (inr hi) = rw (le-ltb x (2 * n * pairs) hi) (of-tail x hi)

@@ -1,13 +1,16 @@
 // The arithmetic of a pixel: blended chroma samples, and the rounding that makes a component.
 // A pixel's letters are taken as first, green and third: red, green, blue in RGB and RGBA, and blue, green, red in BGR and BGRA.
-// A sum is kept 2^31 above its value, so that it never falls below 0: 2^31 is 262,144 times 8,192.
+// A sum is kept above its value by a multiple of 8,192, so that it never falls below 0: 2,048 of them for bytes, where a quotient then
+// fits 16 bits, and 262,144 for u16 samples, which may be anything up to 65,535.
 ghost use mathlib.Core.Path.{_≡_};
-ghost use Prim.Native.Nat.{_+_, _-_, _*_, _/_, _≤_, _<_, min};
+ghost use Prim.Native.Nat.{_+_, _-_, _*_, _≤_, _<_, min};
 ghost use Rattle.yuv_support.specs.Blend.{rounded};
-ghost use Rattle.numerics.specs.Kernel.{outerOf, innerOf, firstOf, greenOf, thirdOf, Roomy};
+ghost use Rattle.numerics.specs.Kernel.{shifted, outerOf, innerOf, firstOf, greenOf, thirdOf, Bytes, Words};
 
-// The coefficients of a pixel's letters, with the biases and the rounding folded into one constant for each letter.
+// The coefficients of a pixel's letters, with the biases, the rounding and the offset folded into one constant for each letter.
 pub struct Kernel {
+    pub offset: u32,
+    pub max: u16,
     pub y: u16,
     pub first: u16,
     pub green_first: u16,
@@ -16,57 +19,116 @@ pub struct Kernel {
     pub base_first: u32,
     pub base_green: u32,
     pub base_third: u32,
-    pub max: u16,
 }
 
 // The letters of a pixel but for alpha.
-pub struct Letters {
+pub struct Letters8 {
+    pub first: u8,
+    pub green: u8,
+    pub third: u8,
+}
+
+pub struct Letters16 {
     pub first: u16,
     pub green: u16,
     pub third: u16,
 }
 
-// Saturating rounding shift right: a sum that is 2^31 above its value, over 8,192, clamped to 0..max.
-pub fn qrshr(sum: u32, max: u16) -> u16
-    ensures { λ r. ⌜ r ≡ min (sum / 8192 - 262144) max ⌝ }
+// ---- bytes
+
+fn saturating_sub16(a: u16, b: u16) -> u16
+    ensures { λ r. ⌜ r ≡ a - b ⌝ }
 {
-    let q = sum / 8192;
-    if q < 262144 {
-        return 0;
-    }
-    let value = q - 262144;
-    if (max as u32) < value {
-        return max;
-    }
-    value as u16
+    if a < b { 0 } else { a - b }
 }
 
-fn outer(ky: u16, kc: u16, base: u32, max: u16, y: u16, c: u16) -> u16
-    requires { ⌜ (ky + kc ≤ 32767) × (base ≤ 2147487744) ⌝ }
-    ensures { λ r. ⌜ r ≡ outerOf ky kc base max y c ⌝ }
+fn at_most_255(a: u16) -> u8
+    ensures { λ r. ⌜ r ≡ min a 255 ⌝ }
 {
-    qrshr(
-        base + (ky as u32) * (y as u32) + (kc as u32) * (c as u32),
+    if 255 < a { 255 } else { a as u8 }
+}
+
+// Saturating rounding shift right, of a sum that is 2,048·8,192 above its value.
+fn qrshr8(sum: u32) -> u8
+    requires { ⌜ sum < 536870912 ⌝ }
+    ensures { λ r. ⌜ r ≡ shifted 2048 255 sum ⌝ }
+{
+    at_most_255(saturating_sub16((sum / 8192) as u16, 2048))
+}
+
+fn outer8(ky: u16, kc: u16, base: u32, y: u8, c: u8) -> u8
+    requires { ⌜ (ky + kc ≤ 32767) × (base ≤ 16781312) ⌝ }
+    ensures { λ r. ⌜ r ≡ outerOf 2048 255 ky kc base y c ⌝ }
+{
+    qrshr8((ky as u32) * (y as u32) + (kc as u32) * (c as u32) + base)
+}
+
+fn inner8(ky: u16, kp: u16, kq: u16, base: u32, y: u8, p: u8, q: u8) -> u8
+    requires { ⌜ (ky ≤ 16383) × (base ≤ 83888128) × ((kp + kq) * 255 ≤ base) ⌝ }
+    ensures { λ r. ⌜ r ≡ innerOf 2048 255 ky kp kq base y p q ⌝ }
+{
+    let taken = (kp as u32) * (p as u32) + (kq as u32) * (q as u32);
+    qrshr8((ky as u32) * (y as u32) + base - taken)
+}
+
+// The letters of a pixel from luma y and the chroma samples of the first and the third letter.
+pub fn pixel8(k: Kernel, y: u8, p: u8, q: u8) -> Letters8
+    requires { ⌜ Bytes k ⌝ }
+    ensures { λ r. ⌜ r ≡ record { first = firstOf k y p; green = greenOf k y p q; third = thirdOf k y q } ⌝ }
+{
+    Letters8 {
+        first: outer8(k.y, k.first, k.base_first, y, p),
+        green: inner8(k.y, k.green_first, k.green_third, k.base_green, y, p, q),
+        third: outer8(k.y, k.third, k.base_third, y, q),
+    }
+}
+
+// ---- u16 samples
+
+fn saturating_sub32(a: u32, b: u32) -> u32
+    ensures { λ r. ⌜ r ≡ a - b ⌝ }
+{
+    if a < b { 0 } else { a - b }
+}
+
+fn at_most(a: u32, max: u16) -> u16
+    ensures { λ r. ⌜ r ≡ min a max ⌝ }
+{
+    if (max as u32) < a { max } else { a as u16 }
+}
+
+// Saturating rounding shift right, of a sum that is 262,144·8,192 above its value.
+fn qrshr16(sum: u32, max: u16) -> u16
+    ensures { λ r. ⌜ r ≡ shifted 262144 max sum ⌝ }
+{
+    at_most(saturating_sub32(sum / 8192, 262144), max)
+}
+
+fn outer16(ky: u16, kc: u16, base: u32, max: u16, y: u16, c: u16) -> u16
+    requires { ⌜ (ky + kc ≤ 32767) × (base ≤ 2147487744) ⌝ }
+    ensures { λ r. ⌜ r ≡ outerOf 262144 max ky kc base y c ⌝ }
+{
+    qrshr16(
+        (ky as u32) * (y as u32) + (kc as u32) * (c as u32) + base,
         max,
     )
 }
 
-fn inner(ky: u16, kp: u16, kq: u16, base: u32, max: u16, y: u16, p: u16, q: u16) -> u16
+fn inner16(ky: u16, kp: u16, kq: u16, base: u32, max: u16, y: u16, p: u16, q: u16) -> u16
     requires { ⌜ (ky ≤ 16383) × (base ≤ 2214594560) × ((kp + kq) * 65535 ≤ base) ⌝ }
-    ensures { λ r. ⌜ r ≡ innerOf ky kp kq base max y p q ⌝ }
+    ensures { λ r. ⌜ r ≡ innerOf 262144 max ky kp kq base y p q ⌝ }
 {
     let taken = (kp as u32) * (p as u32) + (kq as u32) * (q as u32);
-    qrshr(base + (ky as u32) * (y as u32) - taken, max)
+    qrshr16((ky as u32) * (y as u32) + base - taken, max)
 }
 
-// The letters of a pixel from luma y and the chroma samples of the first and the third letter.
-pub fn pixel(k: Kernel, y: u16, p: u16, q: u16) -> Letters
-    requires { ⌜ Roomy k ⌝ }
+pub fn pixel16(k: Kernel, y: u16, p: u16, q: u16) -> Letters16
+    requires { ⌜ Words k ⌝ }
     ensures { λ r. ⌜ r ≡ record { first = firstOf k y p; green = greenOf k y p q; third = thirdOf k y q } ⌝ }
 {
-    Letters {
-        first: outer(k.y, k.first, k.base_first, k.max, y, p),
-        green: inner(
+    Letters16 {
+        first: outer16(k.y, k.first, k.base_first, k.max, y, p),
+        green: inner16(
             k.y,
             k.green_first,
             k.green_third,
@@ -76,9 +138,11 @@ pub fn pixel(k: Kernel, y: u16, p: u16, q: u16) -> Letters
             p,
             q,
         ),
-        third: outer(k.y, k.third, k.base_third, k.max, y, q),
+        third: outer16(k.y, k.third, k.base_third, k.max, y, q),
     }
 }
+
+// ---- blends
 
 // Chroma at the left and at the right pixel of a pair: a and b are the near row's samples, c and e the far row's.
 pub fn left8(a: u8, b: u8, c: u8, e: u8) -> u8

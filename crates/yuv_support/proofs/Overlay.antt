@@ -14,7 +14,7 @@ use borrow.Rule.Slice.PartMut.{putMid}
 use lib.Dec.{ltb}
 use lib.ListN.{length, getD, take, drop, length-append, length-drop, List·getD-append}
 use lib.Seq.{ext-getD, getD-take, getD-drop, getD-append-add, length-take-le, drop-drop, sets, sets-eq}
-use Rattle.yuv_support.specs.Picture.{overlay, rowOf}
+use Rattle.yuv_support.specs.Picture.{overlay, upTo, rowOf}
 
 pub below-or-not : (a b : ℕ) → (a < b) ⊎ (b ≤ a)
 below-or-not a b = by-test (ltb a b) refl
@@ -114,9 +114,6 @@ part-back g h xs ys a k fits same out inside =
     at j b (inr hi) (inr past) = past-part done ys a k fits′ same j past ∙ kept j b (inr past)
 
 -- ---- a loop that fills a row from the front
-
-abbrev pub upTo : ℕ → (ℕ → ℕ) → ℕ → ℕ → ℕ
-upTo c g x old = cond (ltb x c) (g x) old
 
 pub up-none : (g : ℕ → ℕ) (xs : List ℕ) → xs ≡ overlay (upTo 0 g) 0 xs
 up-none g xs = is-overlay (upTo 0 g) xs xs refl (λ j b. rw (le-ltb j 0 (omega arith)))

@@ -63,6 +63,10 @@ overlay g i (x ∷ xs) = g i x ∷ overlay g (suc i) xs
 abbrev pub rowOf : (ℕ → ℕ → ℕ) → ℕ → List ℕ → List ℕ
 rowOf f row xs = overlay (λ x old. f row x) 0 xs
 
+-- the first c elements replaced by g of their places
+abbrev pub upTo : ℕ → (ℕ → ℕ) → ℕ → ℕ → ℕ
+upTo c g x old = cond (ltb x c) (g x) old
+
 -- what stands at place j: f of its row and its place in the row, where the row is one of `count` rows from `first` on and the place is
 -- among the row's first n; elsewhere old, what was there
 abbrev pub cell : (ℕ → ℕ → ℕ) → ℕ → ℕ → ℕ → ℕ → ℕ → ℕ → ℕ

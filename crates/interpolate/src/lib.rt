@@ -1,0 +1,229 @@
+// Rows of byte samples: bilinear chroma from a near and a far row, converted and stored pair by pair, then the tail.
+// A row that has one chroma row takes it as both: the weights of two equal rows are those of one.
+// p and q are the chroma of the first and of the third letter, so one loop serves RGB and BGR, and another RGBA and BGRA.
+ghost use mathlib.Core.Path.{_≡_};
+ghost use mathlib.Core.List.{[], _∷_};
+ghost use Prim.Native.Nat.{_+_, _-_, _*_, _≤_, _<_};
+ghost use lib.ListN.{length};
+ghost use lib.Seq.{sets};
+ghost use Rattle.yuv_support.specs.Picture.{overlay, upTo, rowOf};
+ghost use Rattle.numerics.specs.Kernel.{firstOf, greenOf, thirdOf};
+ghost use Rattle.numerics.specs.Row.{leftOf, rightOf, three, four, pair3, pair4, pairsValue, tailValue, wholeValue, resumed, Bytes, PairsFit, RowFits};
+use numerics::Kernel;
+
+// The letters of a pixel but for alpha.
+pub struct Letters8 {
+    pub first: u8,
+    pub green: u8,
+    pub third: u8,
+}
+
+// Chroma at the two pixels of a pair.
+pub struct Pair8 {
+    pub left: u8,
+    pub right: u8,
+}
+
+fn pixel8(k: Kernel, y: u8, p: u8, q: u8) -> Letters8
+    requires { ⌜ Bytes k ⌝ }
+    ensures { λ r. ⌜ r ≡ record { first = firstOf k y p; green = greenOf k y p q; third = thirdOf k y q } ⌝ }
+{
+    let l = numerics::pixel(k, y as u16, p as u16, q as u16);
+    Letters8 {
+        first: l.first as u8,
+        green: l.green as u8,
+        third: l.third as u8,
+    }
+}
+
+fn pair_chroma8(near: &[u8], far: &[u8], j: usize) -> Pair8
+    requires { ⌜ (j + 1 < length (now near)) × (j + 1 < length (now far)) ⌝ }
+    ensures { λ r. ⌜ r ≡ record { left = leftOf (now (near .entry)) (now (far .entry)) j; right = rightOf (now (near .entry)) (now (far .entry)) j } ⌝ }
+{
+    let a = near[j];
+    let b = near[j + 1];
+    let c = far[j];
+    let e = far[j + 1];
+    Pair8 {
+        left: numerics::left8(a, b, c, e),
+        right: numerics::right8(a, b, c, e),
+    }
+}
+
+// Three letters from place `at` on.
+fn store3(row: &mut [u8], at: usize, a: Letters8)
+    requires { ⌜ at + 3 ≤ length (now row) ⌝ }
+    ensures { λ _. ⌜ now (row .exit) ≡ sets (now (row .entry)) at (a .first ∷ a .green ∷ a .third ∷ []) ⌝ }
+{
+    row[at] = a.first;
+    row[at + 1] = a.green;
+    row[at + 2] = a.third;
+}
+
+// The two pixels of pair j.
+fn store_pair3(
+    row: &mut [u8],
+    y: &[u8],
+    pn: &[u8],
+    pf: &[u8],
+    qn: &[u8],
+    qf: &[u8],
+    j: usize,
+    k: Kernel,
+)
+    requires { ⌜ Bytes k × PairsFit 3 (now row) (now y) (now pn) (now pf) (now qn) (now qf) (j + 1) ⌝ }
+    ensures { λ _. ⌜ now (row .exit) ≡ sets (now (row .entry)) (6 * j) (pair3 k (now (y .entry)) (now (pn .entry)) (now (pf .entry)) (now (qn .entry)) (now (qf .entry)) j) ⌝ }
+{
+    let p = pair_chroma8(pn, pf, j);
+    let q = pair_chroma8(qn, qf, j);
+    let at = 6 * j;
+    store3(row, at, pixel8(k, y[2 * j], p.left, q.left));
+    store3(row, at + 3, pixel8(k, y[2 * j + 1], p.right, q.right));
+}
+
+// All pairs that have a chroma sample after their own.
+fn pairs3(
+    row: &mut [u8],
+    y: &[u8],
+    pn: &[u8],
+    pf: &[u8],
+    qn: &[u8],
+    qf: &[u8],
+    pairs: usize,
+    k: Kernel,
+)
+    requires { ⌜ Bytes k × PairsFit 3 (now row) (now y) (now pn) (now pf) (now qn) (now qf) pairs ⌝ }
+    ensures { λ _. ⌜ now (row .exit) ≡ overlay (upTo (6 * pairs) (pairsValue k 3 (now (y .entry)) (now (pn .entry)) (now (pf .entry)) (now (qn .entry)) (now (qf .entry)))) 0 (now (row .entry)) ⌝ }
+{
+    let mut j: usize = 0;
+    while j < pairs {
+        store_pair3(row, y, pn, pf, qn, qf, j, k);
+        j += 1;
+    }
+}
+
+// The pixels from column `from` on, which share the chroma samples p and q.
+fn tail3(row: &mut [u8], y: &[u8], from: usize, width: usize, p: u8, q: u8, k: Kernel)
+    requires { ⌜ Bytes k × (from ≤ width) × (length (now row) ≡ 3 * width) × (width ≤ length (now y)) ⌝ }
+    ensures { λ _. ⌜ now (row .exit) ≡ overlay (upTo (3 * width) (resumed (3 * from) (tailValue k 3 (now (y .entry)) p q) (now (row .entry)))) 0 (now (row .entry)) ⌝ }
+{
+    let mut c = from;
+    while c < width {
+        store3(row, 3 * c, pixel8(k, y[c], p, q));
+        c += 1;
+    }
+}
+
+// A whole row of 3 letters to the pixel, whose tail has the chroma samples tp and tq.
+pub fn interpolate3(
+    row: &mut [u8],
+    y: &[u8],
+    pn: &[u8],
+    pf: &[u8],
+    qn: &[u8],
+    qf: &[u8],
+    tp: u8,
+    tq: u8,
+    width: usize,
+    k: Kernel,
+)
+    requires { ⌜ Bytes k × RowFits 3 (now row) (now y) (now pn) (now pf) (now qn) (now qf) width ⌝ }
+    ensures { λ _. ⌜ now (row .exit) ≡ rowOf (λ r. wholeValue k 3 width (now (y .entry)) (now (pn .entry)) (now (pf .entry)) (now (qn .entry)) (now (qf .entry)) tp tq) 0 (now (row .entry)) ⌝ }
+{
+    let pairs = (width + 1) / 2 - 1;
+    pairs3(row, y, pn, pf, qn, qf, pairs, k);
+    tail3(row, y, 2 * pairs, width, tp, tq, k);
+}
+
+// Four letters from place `at` on.
+fn store4(row: &mut [u8], at: usize, a: Letters8, alpha: u8)
+    requires { ⌜ at + 4 ≤ length (now row) ⌝ }
+    ensures { λ _. ⌜ now (row .exit) ≡ sets (now (row .entry)) at (a .first ∷ a .green ∷ a .third ∷ alpha ∷ []) ⌝ }
+{
+    row[at] = a.first;
+    row[at + 1] = a.green;
+    row[at + 2] = a.third;
+    row[at + 3] = alpha;
+}
+
+// The two pixels of pair j.
+fn store_pair4(
+    row: &mut [u8],
+    y: &[u8],
+    pn: &[u8],
+    pf: &[u8],
+    qn: &[u8],
+    qf: &[u8],
+    j: usize,
+    k: Kernel,
+)
+    requires { ⌜ Bytes k × PairsFit 4 (now row) (now y) (now pn) (now pf) (now qn) (now qf) (j + 1) ⌝ }
+    ensures { λ _. ⌜ now (row .exit) ≡ sets (now (row .entry)) (8 * j) (pair4 k (now (y .entry)) (now (pn .entry)) (now (pf .entry)) (now (qn .entry)) (now (qf .entry)) j) ⌝ }
+{
+    let p = pair_chroma8(pn, pf, j);
+    let q = pair_chroma8(qn, qf, j);
+    let alpha = k.max as u8;
+    let at = 8 * j;
+    store4(row, at, pixel8(k, y[2 * j], p.left, q.left), alpha);
+    store4(
+        row,
+        at + 4,
+        pixel8(k, y[2 * j + 1], p.right, q.right),
+        alpha,
+    );
+}
+
+// All pairs that have a chroma sample after their own.
+fn pairs4(
+    row: &mut [u8],
+    y: &[u8],
+    pn: &[u8],
+    pf: &[u8],
+    qn: &[u8],
+    qf: &[u8],
+    pairs: usize,
+    k: Kernel,
+)
+    requires { ⌜ Bytes k × PairsFit 4 (now row) (now y) (now pn) (now pf) (now qn) (now qf) pairs ⌝ }
+    ensures { λ _. ⌜ now (row .exit) ≡ overlay (upTo (8 * pairs) (pairsValue k 4 (now (y .entry)) (now (pn .entry)) (now (pf .entry)) (now (qn .entry)) (now (qf .entry)))) 0 (now (row .entry)) ⌝ }
+{
+    let mut j: usize = 0;
+    while j < pairs {
+        store_pair4(row, y, pn, pf, qn, qf, j, k);
+        j += 1;
+    }
+}
+
+// The pixels from column `from` on, which share the chroma samples p and q.
+fn tail4(row: &mut [u8], y: &[u8], from: usize, width: usize, p: u8, q: u8, k: Kernel)
+    requires { ⌜ Bytes k × (from ≤ width) × (length (now row) ≡ 4 * width) × (width ≤ length (now y)) ⌝ }
+    ensures { λ _. ⌜ now (row .exit) ≡ overlay (upTo (4 * width) (resumed (4 * from) (tailValue k 4 (now (y .entry)) p q) (now (row .entry)))) 0 (now (row .entry)) ⌝ }
+{
+    let alpha = k.max as u8;
+    let mut c = from;
+    while c < width {
+        store4(row, 4 * c, pixel8(k, y[c], p, q), alpha);
+        c += 1;
+    }
+}
+
+// A whole row of 4 letters to the pixel, whose tail has the chroma samples tp and tq.
+pub fn interpolate4(
+    row: &mut [u8],
+    y: &[u8],
+    pn: &[u8],
+    pf: &[u8],
+    qn: &[u8],
+    qf: &[u8],
+    tp: u8,
+    tq: u8,
+    width: usize,
+    k: Kernel,
+)
+    requires { ⌜ Bytes k × RowFits 4 (now row) (now y) (now pn) (now pf) (now qn) (now qf) width ⌝ }
+    ensures { λ _. ⌜ now (row .exit) ≡ rowOf (λ r. wholeValue k 4 width (now (y .entry)) (now (pn .entry)) (now (pf .entry)) (now (qn .entry)) (now (qf .entry)) tp tq) 0 (now (row .entry)) ⌝ }
+{
+    let pairs = (width + 1) / 2 - 1;
+    pairs4(row, y, pn, pf, qn, qf, pairs, k);
+    tail4(row, y, 2 * pairs, width, tp, tq, k);
+}

@@ -1,0 +1,5 @@
+pub mod Constants
+pub mod Rounding
+pub mod Coefficients
+pub mod AtMost
+pub mod Narrow

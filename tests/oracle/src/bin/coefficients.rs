@@ -1,0 +1,118 @@
+//! Compares the settings used with those of the Rust, named and Custom, and with questions 2 and 13.
+use oracle::cases::{limit, EDGES};
+use oracle::{library, model, random::Random, reference, tally::Tally, Codes};
+use std::process::ExitCode;
+
+const DEPTHS: [u32; 3] = [8, 10, 12];
+
+fn main() -> ExitCode {
+    let mut tally = Tally::default();
+    named(&mut tally);
+    unknown(&mut tally);
+    let mut random = Random(2024);
+    for depth in DEPTHS {
+        for range in 0..2 {
+            let pairs = pairs(&mut random, depth, range);
+            println!("depth {depth}, range {range}: {} Custom pairs", pairs.len());
+            for (kr, kb) in pairs {
+                compare(&mut tally, depth, range, 6, kr, kb);
+            }
+        }
+    }
+    tally.finish("settings")
+}
+
+fn compare(tally: &mut Tally, depth: u32, range: u32, matrix: u32, kr: f32, kb: f32) {
+    let codes = Codes { depth, sampling: 0, order: 0, range, matrix, kr, kb };
+    let ours = library::settings(&codes);
+    let mut wanted = model::settings(depth, range, matrix, kr, kb);
+    if wanted.number == 0 {
+        wanted = reference::settings(&codes);
+    }
+    tally.count(ours.number);
+    let text = |what: &str| {
+        let (kr, kb) = (kr.to_bits(), kb.to_bits());
+        format!("  {what} {codes:?}, kr {kr:#010x}, kb {kb:#010x}\n  ours   {ours:?}\n  wanted {wanted:?}")
+    };
+    if ours != wanted {
+        tally.differ(0, || text("the library on"));
+    }
+    if matrix == 6 && wanted.number == 0 {
+        let five = [wanted.y, wanted.cr, wanted.cb, wanted.g1, wanted.g2].map(i64::from);
+        if five != model::computed(depth, range, kr, kb) {
+            tally.differ(1, || text("the model, not the library, on"));
+        }
+    }
+}
+
+/// The 36 named settings, without weights and beside weights, which they ignore.
+fn named(tally: &mut Tally) {
+    for depth in DEPTHS {
+        for range in 0..2 {
+            for matrix in 0..6 {
+                for (kr, kb) in [(0.0, 0.0), (f32::NAN, 0.5), (0.5, 0.5), (-1.0, f32::INFINITY)] {
+                    compare(tally, depth, range, matrix, kr, kb);
+                }
+            }
+        }
+    }
+}
+
+/// Codes that are not known, singly and together, beside known ones.
+fn unknown(tally: &mut Tally) {
+    for depth in [0, 1, 7, 8, 9, 10, 11, 12, 13, 14, 16, 32, 264, u32::MAX] {
+        for range in [0, 1, 2, 3, 256, u32::MAX] {
+            for matrix in (0..10).chain([256, 262, u32::MAX]) {
+                for (kr, kb) in [(0.25, 0.25), (0.5, 0.5), (f32::NAN, 0.0)] {
+                    compare(tally, depth, range, matrix, kr, kb);
+                }
+            }
+        }
+    }
+}
+
+/// Weights of Custom: edges of every kind, and random ones around every limit.
+fn pairs(random: &mut Random, depth: u32, range: u32) -> Vec<(f32, f32)> {
+    let mut all: Vec<(f32, f32)> = EDGES.iter().flat_map(|kr| EDGES.map(|kb| (*kr, kb))).collect();
+    for turn in 0..210_000 {
+        let kr = random.unit();
+        all.push(match turn % 7 {
+            0 => (kr, random.unit()),
+            1 => (kr, random.unit() * (1.0 - kr)),
+            2 => (any_bits(random), any_bits(random)),
+            3 => (below_one(random), below_one(random)),
+            4 => (kr, beside(random, 1.0 - kr)),
+            5 => swapped(random.below(2), kr, beside(random, limit(depth, range, kr))),
+            _ => (half(random), half(random)),
+        });
+    }
+    all
+}
+
+fn any_bits(random: &mut Random) -> f32 {
+    f32::from_bits(random.bits() as u32)
+}
+
+/// From 0 to 1, every exponent alike.
+fn below_one(random: &mut Random) -> f32 {
+    f32::from_bits(random.between(0, 1f32.to_bits()))
+}
+
+/// A float at most eight places away.
+fn beside(random: &mut Random, x: f32) -> f32 {
+    f32::from_bits(x.to_bits().wrapping_add(random.below(17)).wrapping_sub(8))
+}
+
+/// A weight whose own coefficient in full range ends in one half.
+fn half(random: &mut Random) -> f32 {
+    1.0 - (2 * random.below(16384) + 1) as f32 / 32768.0
+}
+
+/// The pair, or the pair with its members exchanged.
+fn swapped(coin: u32, kr: f32, kb: f32) -> (f32, f32) {
+    if coin == 0 {
+        (kr, kb)
+    } else {
+        (kb, kr)
+    }
+}

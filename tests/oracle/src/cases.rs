@@ -1,0 +1,138 @@
+//! What is compared: element widths, samples, buffers at and around their limits, weights.
+use crate::random::Random;
+use crate::reference::Reference;
+use crate::{model, Codes, Extent, Planes, Request};
+
+/// An element of a plane.
+pub trait Element: Reference + PartialEq {
+    const BITS: u32;
+    const DEPTHS: &'static [u32];
+    fn low(value: u16) -> Self;
+}
+
+impl Element for u8 {
+    const BITS: u32 = 8;
+    const DEPTHS: &'static [u32] = &[8];
+    fn low(value: u16) -> u8 {
+        value as u8
+    }
+}
+
+impl Element for u16 {
+    const BITS: u32 = 16;
+    const DEPTHS: &'static [u32] = &[10, 12];
+    fn low(value: u16) -> u16 {
+        value
+    }
+}
+
+/// Samples up to M, up to the element's width, or from the ends of both and the biases.
+#[derive(Clone, Copy, Debug, PartialEq)]
+pub enum Samples {
+    Within,
+    Any,
+    Extreme,
+}
+
+pub const SAMPLES: [Samples; 3] = [Samples::Within, Samples::Any, Samples::Extreme];
+
+/// `len` random samples.
+pub fn samples<T: Element>(random: &mut Random, kind: Samples, depth: u32, len: usize) -> Vec<T> {
+    let depth = depth.clamp(8, 16);
+    let max = (u32::MAX >> (32 - depth)) as u16;
+    let (bias_y, bias_c) = (16 << (depth - 8), 1 << (depth - 1));
+    let ends = [0, 1, bias_y, bias_c - 1, bias_c, max - 1, max, u16::MAX];
+    let mut all = Vec::with_capacity(len + 3);
+    while all.len() < len {
+        let bits = random.bits();
+        for lane in 0..4 {
+            let value = (bits >> (16 * lane)) as u16;
+            all.push(T::low(match kind {
+                Samples::Within => value & max,
+                Samples::Any => value,
+                Samples::Extreme => ends[usize::from(value % 8)],
+            }));
+        }
+    }
+    all.truncate(len);
+    all
+}
+
+/// The three planes of a request.
+pub fn planes<T: Element>(random: &mut Random, kind: Samples, q: &Request) -> Planes<T> {
+    [q.y, q.u, q.v].map(|plane| samples(random, kind, q.codes.depth, plane.len))
+}
+
+/// How far a stride and a length lie above their limits.
+pub type Slack = (i64, i64);
+
+pub const TIGHT: [Slack; 4] = [(0, 0); 4];
+
+/// A buffer for rows of `row` elements.
+pub fn extent(row: u32, rows: u32, (stride, len): Slack) -> Extent {
+    let stride = (i64::from(row) + stride).clamp(0, u32::MAX.into());
+    let needed = stride * (i64::from(rows) - 1).max(0) + i64::from(row);
+    Extent { len: (needed + len).max(0) as usize, stride: stride as u32 }
+}
+
+/// A request with the slack of the destination, Y, U and V.
+pub fn request(codes: Codes, width: u32, height: u32, slack: [Slack; 4]) -> Request {
+    let (chroma_width, chroma_height) = model::chroma_sides(codes.sampling, width, height);
+    Request {
+        codes,
+        width,
+        height,
+        rgb: extent(width * model::channels(codes.order.min(3)), height, slack[0]),
+        y: extent(width, height, slack[1]),
+        u: extent(chroma_width, chroma_height, slack[2]),
+        v: extent(chroma_width, chroma_height, slack[3]),
+    }
+}
+
+/// Known codes, with weights.
+pub fn codes<T: Element>(random: &mut Random) -> Codes {
+    let (depth, range) = (random.pick(T::DEPTHS), random.below(2));
+    let (kr, kb) = weights(random, depth, range);
+    let (sampling, order, matrix) = (random.below(2), random.below(4), random.below(7));
+    Codes { depth, sampling, order, range, matrix, kr, kb }
+}
+
+const fn bits(bits: u32) -> f32 {
+    f32::from_bits(bits)
+}
+
+/// Weights at and beyond the ends: signed zeros, the neighbours of 0 and 1, subnormal and normal
+/// ends, infinities, NaNs, and some plain ones.
+#[rustfmt::skip]
+pub const EDGES: [f32; 40] = [
+    0.0, -0.0, 1.0, -1.0, 2.0, -2.0, 0.5, 0.25, 0.75, 0.4, 0.6, 0.3, 0.299, 0.114, 0.2126, 0.0722,
+    0.9, 0.1, 1e-20, -1e-20, 1e-30, 1e10, f32::MIN, f32::MAX, f32::INFINITY, f32::NEG_INFINITY,
+    f32::MIN_POSITIVE, -f32::MIN_POSITIVE, bits(0x0000_0001), bits(0x8000_0001), bits(0x007f_ffff),
+    bits(0x807f_ffff), bits(0x3f7f_ffff), bits(0x3f80_0001), bits(0x3f7f_fffe), bits(0x3380_0000),
+    bits(0x7fc0_0000), bits(0xffc0_0000), bits(0x7f80_0001), bits(0xff80_0001),
+];
+
+/// Weights that question 13 lets through, in the middle and at the limit, and others.
+pub fn weights(random: &mut Random, depth: u32, range: u32) -> (f32, f32) {
+    let kr = random.unit();
+    match random.below(4) {
+        0 => (random.pick(&EDGES), random.pick(&EDGES)),
+        1 => (kr, limit(depth, range, kr)),
+        2 => (limit(depth, range, kr), kr),
+        _ => (0.9 * kr, random.unit() * (0.9 - 0.9 * kr)),
+    }
+}
+
+/// The last kb that question 13 lets through beside kr.
+pub fn limit(depth: u32, range: u32, kr: f32) -> f32 {
+    let (mut yes, mut no) = (0, 1f32.to_bits());
+    while no - yes > 1 {
+        let middle = (yes + no) / 2;
+        if model::usable(depth, range, kr, bits(middle)) {
+            yes = middle;
+        } else {
+            no = middle;
+        }
+    }
+    bits(yes)
+}

@@ -1,0 +1,79 @@
+//! Compares the proved library with the scalar Rust of yuvutils-rs and with document 01's questions.
+
+pub mod cases;
+pub mod library;
+pub mod model;
+pub mod random;
+pub mod reference;
+pub mod tally;
+
+/// What a call answers: 0, 0, 0, or the first question that got a "no".
+#[repr(C)]
+#[derive(Clone, Copy, Debug, Default, PartialEq, Eq)]
+pub struct Answer {
+    pub number: u64,
+    pub expected: u64,
+    pub received: u64,
+}
+
+/// The settings that a conversion uses; all 0 beside a number other than 0.
+#[repr(C)]
+#[derive(Clone, Copy, Debug, Default, PartialEq, Eq)]
+pub struct SettingsUsed {
+    pub number: u64,
+    pub expected: u64,
+    pub received: u64,
+    pub max: u32,
+    pub bias_y: u32,
+    pub bias_uv: u32,
+    pub y: u32,
+    pub cr: u32,
+    pub cb: u32,
+    pub g1: u32,
+    pub g2: u32,
+}
+
+/// A part of a buffer; empty, at 0, beside a number other than 0.
+#[repr(C)]
+#[derive(Clone, Copy, Debug, Default, PartialEq, Eq)]
+pub struct Part {
+    pub number: u64,
+    pub expected: u64,
+    pub received: u64,
+    pub start: u64,
+    pub length: u64,
+}
+
+/// Document 01's codes, with the weights of Custom.
+#[derive(Clone, Copy, Debug)]
+pub struct Codes {
+    pub depth: u32,
+    pub sampling: u32,
+    pub order: u32,
+    pub range: u32,
+    pub matrix: u32,
+    pub kr: f32,
+    pub kb: f32,
+}
+
+/// The length and the stride of a buffer, in elements.
+#[derive(Clone, Copy, Debug)]
+pub struct Extent {
+    pub len: usize,
+    pub stride: u32,
+}
+
+/// All that a conversion is asked with, without the samples.
+#[derive(Clone, Copy, Debug)]
+pub struct Request {
+    pub codes: Codes,
+    pub width: u32,
+    pub height: u32,
+    pub y: Extent,
+    pub u: Extent,
+    pub v: Extent,
+    pub rgb: Extent,
+}
+
+/// The samples of the Y, U and V planes.
+pub type Planes<T> = [Vec<T>; 3];

@@ -1,0 +1,114 @@
+//! The exports of the proved library (include/dethrowg.h), behind safe functions.
+#[cfg(feature = "level_c")]
+use crate::Part;
+#[cfg(feature = "level_a")]
+use crate::{Answer, Planes, Request};
+use crate::{Codes, SettingsUsed};
+
+extern "C" {
+    fn dethrowg_coefficients(depth: u32, range: u32, matrix: u32, kr: f32, kb: f32)
+        -> SettingsUsed;
+}
+
+/// The settings that a conversion uses.
+pub fn settings(codes: &Codes) -> SettingsUsed {
+    unsafe { dethrowg_coefficients(codes.depth, codes.range, codes.matrix, codes.kr, codes.kb) }
+}
+
+/// Element widths that the library converts.
+#[cfg(feature = "level_a")]
+pub trait Convert: crate::cases::Element {
+    /// The request's lengths are those of the buffers. The planes are lent as mutable, so that a
+    /// write to them could be seen.
+    fn convert(request: &Request, planes: &mut Planes<Self>, rgb: &mut [Self]) -> Answer;
+}
+
+#[rustfmt::skip]
+macro_rules! conversion {
+    ($level:literal, $element:ty, $export:ident) => {
+        #[cfg(feature = $level)]
+        extern "C" {
+            fn $export(
+                depth: u32, sampling: u32, order: u32, range: u32, matrix: u32, kr: f32, kb: f32,
+                width: u32, height: u32,
+                y: *const $element, y_len: usize, y_stride: u32,
+                u: *const $element, u_len: usize, u_stride: u32,
+                v: *const $element, v_len: usize, v_stride: u32,
+                rgb: *mut $element, rgb_len: usize, rgb_stride: u32,
+            ) -> Answer;
+        }
+
+        #[cfg(feature = $level)]
+        impl Convert for $element {
+            fn convert(q: &Request, planes: &mut Planes<Self>, rgb: &mut [Self]) -> Answer {
+                let (c, [y, u, v]) = (&q.codes, planes);
+                let lengths = [y.len(), u.len(), v.len(), rgb.len()];
+                assert_eq!([q.y.len, q.u.len, q.v.len, q.rgb.len], lengths);
+                unsafe {
+                    $export(
+                        c.depth, c.sampling, c.order, c.range, c.matrix, c.kr, c.kb,
+                        q.width, q.height,
+                        y.as_mut_ptr(), y.len(), q.y.stride,
+                        u.as_mut_ptr(), u.len(), q.u.stride,
+                        v.as_mut_ptr(), v.len(), q.v.stride,
+                        rgb.as_mut_ptr(), rgb.len(), q.rgb.stride,
+                    )
+                }
+            }
+        }
+    };
+}
+
+conversion!("level_a", u8, dethrowg_yuv8_to_rgb);
+conversion!("level_b", u16, dethrowg_yuv16_to_rgb);
+
+/// Element widths whose rows the library hands back.
+#[cfg(feature = "level_c")]
+pub trait Read: crate::cases::Element {
+    fn row(order: u32, sides: (u32, u32), rgb: &[Self], stride: u32, row: u32) -> Part;
+    fn chroma_row(
+        sampling: u32, wanted: u32, sides: (u32, u32), planes: (&[Self], &[Self]),
+        strides: (u32, u32), row: u32,
+    ) -> Part;
+}
+
+#[rustfmt::skip]
+macro_rules! readers {
+    ($element:ty, $row:ident, $chroma_row:ident) => {
+        #[cfg(feature = "level_c")]
+        extern "C" {
+            fn $row(
+                order: u32, width: u32, height: u32,
+                rgb: *const $element, rgb_len: usize, rgb_stride: u32, row: u32,
+            ) -> Part;
+            fn $chroma_row(
+                sampling: u32, plane: u32, width: u32, height: u32,
+                u: *const $element, u_len: usize, u_stride: u32,
+                v: *const $element, v_len: usize, v_stride: u32, row: u32,
+            ) -> Part;
+        }
+
+        #[cfg(feature = "level_c")]
+        impl Read for $element {
+            fn row(order: u32, sides: (u32, u32), rgb: &[Self], stride: u32, row: u32) -> Part {
+                unsafe { $row(order, sides.0, sides.1, rgb.as_ptr(), rgb.len(), stride, row) }
+            }
+
+            fn chroma_row(
+                sampling: u32, wanted: u32, sides: (u32, u32), (u, v): (&[Self], &[Self]),
+                strides: (u32, u32), row: u32,
+            ) -> Part {
+                unsafe {
+                    $chroma_row(
+                        sampling, wanted, sides.0, sides.1,
+                        u.as_ptr(), u.len(), strides.0,
+                        v.as_ptr(), v.len(), strides.1, row,
+                    )
+                }
+            }
+        }
+    };
+}
+
+readers!(u8, dethrowg_row8, dethrowg_chroma_row8);
+readers!(u16, dethrowg_row16, dethrowg_chroma_row16);
