@@ -3,20 +3,14 @@
 // p and q are the chroma of the first and of the third letter, so one loop serves RGB and BGR, and another RGBA and BGRA.
 ghost use mathlib.Core.Path.{_≡_};
 ghost use mathlib.Core.List.{[], _∷_};
-ghost use Prim.Native.Nat.{_+_, _-_, _*_, _≤_, _<_};
+ghost use Prim.Native.Nat.{_+_, _*_, _≤_, _<_};
 ghost use lib.ListN.{length};
 ghost use lib.Seq.{sets};
 ghost use Rattle.yuv_support.specs.Picture.{overlay, upTo, rowOf};
-ghost use Rattle.numerics.specs.Kernel.{firstOf, greenOf, thirdOf};
-ghost use Rattle.numerics.specs.Row.{leftOf, rightOf, three, four, pair3, pair4, pairsValue, tailValue, wholeValue, resumed, Bytes, PairsFit, RowFits};
+ghost use Rattle.numerics.specs.Kernel.{Bytes};
+ghost use Rattle.numerics.specs.Row.{leftOf, rightOf, pair3, pair4, pairsValue, tailValue, wholeValue, resumed, PairsFit, RowFits};
 use numerics::Kernel;
-
-// The letters of a pixel but for alpha.
-pub struct Letters8 {
-    pub first: u8,
-    pub green: u8,
-    pub third: u8,
-}
+use numerics::Letters8;
 
 // Chroma at the two pixels of a pair.
 pub struct Pair8 {
@@ -24,19 +18,7 @@ pub struct Pair8 {
     pub right: u8,
 }
 
-fn pixel8(k: Kernel, y: u8, p: u8, q: u8) -> Letters8
-    requires { ⌜ Bytes k ⌝ }
-    ensures { λ r. ⌜ r ≡ record { first = firstOf k y p; green = greenOf k y p q; third = thirdOf k y q } ⌝ }
-{
-    let l = numerics::pixel(k, y as u16, p as u16, q as u16);
-    Letters8 {
-        first: l.first as u8,
-        green: l.green as u8,
-        third: l.third as u8,
-    }
-}
-
-fn pair_chroma8(near: &[u8], far: &[u8], j: usize) -> Pair8
+fn pair_chroma(near: &[u8], far: &[u8], j: usize) -> Pair8
     requires { ⌜ (j + 1 < length (now near)) × (j + 1 < length (now far)) ⌝ }
     ensures { λ r. ⌜ r ≡ record { left = leftOf (now (near .entry)) (now (far .entry)) j; right = rightOf (now (near .entry)) (now (far .entry)) j } ⌝ }
 {
@@ -74,11 +56,13 @@ fn store_pair3(
     requires { ⌜ Bytes k × PairsFit 3 (now row) (now y) (now pn) (now pf) (now qn) (now qf) (j + 1) ⌝ }
     ensures { λ _. ⌜ now (row .exit) ≡ sets (now (row .entry)) (6 * j) (pair3 k (now (y .entry)) (now (pn .entry)) (now (pf .entry)) (now (qn .entry)) (now (qf .entry)) j) ⌝ }
 {
-    let p = pair_chroma8(pn, pf, j);
-    let q = pair_chroma8(qn, qf, j);
+    let p = pair_chroma(pn, pf, j);
+    let q = pair_chroma(qn, qf, j);
+    let a = numerics::pixel8(k, y[2 * j], p.left, q.left);
+    let b = numerics::pixel8(k, y[2 * j + 1], p.right, q.right);
     let at = 6 * j;
-    store3(row, at, pixel8(k, y[2 * j], p.left, q.left));
-    store3(row, at + 3, pixel8(k, y[2 * j + 1], p.right, q.right));
+    store3(row, at, a);
+    store3(row, at + 3, b);
 }
 
 // All pairs that have a chroma sample after their own.
@@ -109,12 +93,13 @@ fn tail3(row: &mut [u8], y: &[u8], from: usize, width: usize, p: u8, q: u8, k: K
 {
     let mut c = from;
     while c < width {
-        store3(row, 3 * c, pixel8(k, y[c], p, q));
+        let a = numerics::pixel8(k, y[c], p, q);
+        store3(row, 3 * c, a);
         c += 1;
     }
 }
 
-// A whole row of 3 letters to the pixel, whose tail has the chroma samples tp and tq.
+// A whole row of three letters to the pixel, whose tail has the chroma samples tp and tq.
 pub fn interpolate3(
     row: &mut [u8],
     y: &[u8],
@@ -160,17 +145,13 @@ fn store_pair4(
     requires { ⌜ Bytes k × PairsFit 4 (now row) (now y) (now pn) (now pf) (now qn) (now qf) (j + 1) ⌝ }
     ensures { λ _. ⌜ now (row .exit) ≡ sets (now (row .entry)) (8 * j) (pair4 k (now (y .entry)) (now (pn .entry)) (now (pf .entry)) (now (qn .entry)) (now (qf .entry)) j) ⌝ }
 {
-    let p = pair_chroma8(pn, pf, j);
-    let q = pair_chroma8(qn, qf, j);
-    let alpha = k.max as u8;
+    let p = pair_chroma(pn, pf, j);
+    let q = pair_chroma(qn, qf, j);
+    let a = numerics::pixel8(k, y[2 * j], p.left, q.left);
+    let b = numerics::pixel8(k, y[2 * j + 1], p.right, q.right);
     let at = 8 * j;
-    store4(row, at, pixel8(k, y[2 * j], p.left, q.left), alpha);
-    store4(
-        row,
-        at + 4,
-        pixel8(k, y[2 * j + 1], p.right, q.right),
-        alpha,
-    );
+    store4(row, at, a, 255);
+    store4(row, at + 4, b, 255);
 }
 
 // All pairs that have a chroma sample after their own.
@@ -199,15 +180,15 @@ fn tail4(row: &mut [u8], y: &[u8], from: usize, width: usize, p: u8, q: u8, k: K
     requires { ⌜ Bytes k × (from ≤ width) × (length (now row) ≡ 4 * width) × (width ≤ length (now y)) ⌝ }
     ensures { λ _. ⌜ now (row .exit) ≡ overlay (upTo (4 * width) (resumed (4 * from) (tailValue k 4 (now (y .entry)) p q) (now (row .entry)))) 0 (now (row .entry)) ⌝ }
 {
-    let alpha = k.max as u8;
     let mut c = from;
     while c < width {
-        store4(row, 4 * c, pixel8(k, y[c], p, q), alpha);
+        let a = numerics::pixel8(k, y[c], p, q);
+        store4(row, 4 * c, a, 255);
         c += 1;
     }
 }
 
-// A whole row of 4 letters to the pixel, whose tail has the chroma samples tp and tq.
+// A whole row of four letters to the pixel, whose tail has the chroma samples tp and tq.
 pub fn interpolate4(
     row: &mut [u8],
     y: &[u8],

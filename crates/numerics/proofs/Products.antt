@@ -1,8 +1,7 @@
--- A coefficient times a sample of 16 bits.
+-- A coefficient times a sample of at most `most`.
 -- Assumes nothing.
-use Prim.Native.Nat.{ℕ, _*_, _≤_, _<_}
-use native.Mathlib.Nat.{mul-le-mul-left}
-use native.Mathlib.Omega.{arith}
+use Prim.Native.Nat.{ℕ, suc, _*_, _≤_, _<_}
+use native.Mathlib.Nat.{mul-le-mul-left, le-of-suc-le-suc}
 
-pub product-le : (k x : ℕ) → x < 65536 → k * x ≤ k * 65535
-product-le k x h = mul-le-mul-left k (let l : x ≤ 65535 = omega arith in l)
+pub product-le : (most k x : ℕ) → x < suc most → k * x ≤ k * most
+product-le most k x h = mul-le-mul-left k (le-of-suc-le-suc h)

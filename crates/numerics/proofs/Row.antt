@@ -6,12 +6,12 @@ use mathlib.Core.Bool.{Bool, true, false, cond}
 use mathlib.Core.List.{List, [], _∷_, _++_}
 use mathlib.Core.Logic.{_⊎_, inl, inr}
 use Prim.Native.Nat.{ℕ, suc, _+_, _-_, _*_, _/_, _%_, _≤_, _<_}
-use native.Mathlib.Nat.{div-lt-iff-lt-mul, le-div-iff-mul-le, mul-comm}
+use native.Mathlib.Nat.{add-zero, div-lt-iff-lt-mul, le-div-iff-mul-le}
 use native.Mathlib.Omega.{arith}
 use borrow.Author.Tests.{lt-ltb, le-ltb, eq-eqb, ne-eqb}
 use lib.Arith.{digits-div, digits-mod}
 use lib.Dec.{eqb, ltb, lit<}
-use lib.ListN.{length, getD}
+use lib.ListN.{length, getD, set}
 use lib.Seq.{sets}
 use Rattle.yuv_support.specs.Blend.{chromaWidth}
 use Rattle.yuv_support.specs.Picture.{overlay, upTo, rowOf}
@@ -177,3 +177,15 @@ module _ (k : Kernel) (n width : ℕ) (some : 0 < n) (y pn pf qn qf : List ℕ) 
           → resumed (2 * n * pairs) (tailValue k n y tp tq) row x ≡ wholeValue k n width y pn pf qn qf tp tq x
       at-place x b (inl lo) = rw (lt-ltb x (2 * n * pairs) lo, er) (overlay-at _ xs x b ∙ rw (lt-ltb x (2 * n * pairs) lo) (of-pairs x lo))
       at-place x b (inr hi) = rw (le-ltb x (2 * n * pairs) hi) (of-tail x hi)
+
+-- ---- the stores of a pair, one pixel after the other
+
+sets-append : (vs ws l : List ℕ) (i : ℕ) → sets (sets l i vs) (i + length vs) ws ≡ sets l i (vs ++ ws)
+sets-append [] ws l i = rw add-zero
+sets-append (v ∷ vs) ws l i =
+    let e : i + suc (length vs) ≡ suc i + length vs = omega arith in
+    rw e (sets-append vs ws (set l i v) (suc i))
+
+-- the letters a and b of two pixels, stored one after the other
+pub stored-twice : (row row′ row″ a b : List ℕ) (i n : ℕ) → length a ≡ n → row′ ≡ sets row i a → row″ ≡ sets row′ (i + n) b → row″ ≡ sets row i (a ++ b)
+stored-twice row row′ row″ a b i n l e e′ = e′ ∙ rw (e, ← l) (sets-append a b row i)

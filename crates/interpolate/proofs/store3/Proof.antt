@@ -1,36 +1,36 @@
+-- `interpolate::store3` meets its contract.
+-- Assumes nothing.
 use borrow.Author.Needs.{needs}
+use mathlib.Core.Path.{_≡_}
+use Prim.Native.Nat.{suc, _+_}
+use native.Mathlib.Omega.{arith}
+use lib.ListN.{length-set}
 use Rattle.interpolate.proofs.store3.Statement.{statement}
 use Rattle.interpolate.proofs.store3.Tie as tie
-use Rattle.interpolate.proofs.store3.Reads as reads
-use Rattle.interpolate.proofs.store3.Lts as lts
 
--- src/lib.rt:58:5
 slice-write-row : tie.Need-slice-write-row
 slice-write-row c = search needs
 
--- src/lib.rt:59:9
 add-row : tie.Need-add-row
 add-row c = search needs
 
--- src/lib.rt:59:5
 slice-write-row-2 : tie.Need-slice-write-row-2
-slice-write-row-2 c = ?
+slice-write-row-2 c = simp length-set (omega arith)
 
--- src/lib.rt:60:9
 add-row-2 : tie.Need-add-row-2
 add-row-2 c = search needs
 
--- src/lib.rt:60:5
 slice-write-row-3 : tie.Need-slice-write-row-3
-slice-write-row-3 c = ?
+slice-write-row-3 c = simp length-set (omega arith)
 
--- src/lib.rt:54:1
 same-length : tie.Need-same-length
 same-length c = search needs
 
--- src/lib.rt:54:1
 returns : tie.Need-returns
-returns c = ?
+returns c =
+    let e1 : c .args .at + 1 ≡ suc (c .args .at) = omega arith in
+    let e2 : c .args .at + 2 ≡ suc (suc (c .args .at)) = omega arith in
+    rw (e1, e2)
 
 pub store3-spec : {M : Type 1} → statement M
 store3-spec =

@@ -1,44 +1,43 @@
+-- `interpolate::store4` meets its contract.
+-- Assumes nothing.
 use borrow.Author.Needs.{needs}
+use mathlib.Core.Path.{_≡_}
+use Prim.Native.Nat.{suc, _+_}
+use native.Mathlib.Omega.{arith}
+use lib.ListN.{length-set}
 use Rattle.interpolate.proofs.store4.Statement.{statement}
 use Rattle.interpolate.proofs.store4.Tie as tie
-use Rattle.interpolate.proofs.store4.Reads as reads
-use Rattle.interpolate.proofs.store4.Lts as lts
 
--- src/lib.rt:114:5
 slice-write-row : tie.Need-slice-write-row
 slice-write-row c = search needs
 
--- src/lib.rt:115:9
 add-row : tie.Need-add-row
 add-row c = search needs
 
--- src/lib.rt:115:5
 slice-write-row-2 : tie.Need-slice-write-row-2
-slice-write-row-2 c = ?
+slice-write-row-2 c = simp length-set (omega arith)
 
--- src/lib.rt:116:9
 add-row-2 : tie.Need-add-row-2
 add-row-2 c = search needs
 
--- src/lib.rt:116:5
 slice-write-row-3 : tie.Need-slice-write-row-3
-slice-write-row-3 c = ?
+slice-write-row-3 c = simp length-set (omega arith)
 
--- src/lib.rt:117:9
 add-row-3 : tie.Need-add-row-3
 add-row-3 c = search needs
 
--- src/lib.rt:117:5
 slice-write-row-4 : tie.Need-slice-write-row-4
-slice-write-row-4 c = ?
+slice-write-row-4 c = simp length-set (omega arith)
 
--- src/lib.rt:110:1
 same-length : tie.Need-same-length
 same-length c = search needs
 
--- src/lib.rt:110:1
 returns : tie.Need-returns
-returns c = ?
+returns c =
+    let e1 : c .args .at + 1 ≡ suc (c .args .at) = omega arith in
+    let e2 : c .args .at + 2 ≡ suc (suc (c .args .at)) = omega arith in
+    let e3 : c .args .at + 3 ≡ suc (suc (suc (c .args .at))) = omega arith in
+    rw (e1, e2, e3)
 
 pub store4-spec : {M : Type 1} → statement M
 store4-spec =

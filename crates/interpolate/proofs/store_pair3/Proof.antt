@@ -1,88 +1,85 @@
+-- `interpolate::store_pair3` meets its contract.
+-- Assumes nothing.
 use borrow.Author.Needs.{needs}
+use mathlib.Core.Path.{_≡_, refl, _∙_}
+use Prim.Native.Nat.{_+_, _*_}
+use native.Mathlib.Omega.{arith}
+use lib.ListN.{length-set}
+use Rattle.numerics.specs.Row.{at, leftOf, rightOf, three}
+use Rattle.numerics.proofs.Row.{stored-twice}
 use Rattle.interpolate.proofs.store_pair3.Statement.{statement}
 use Rattle.interpolate.proofs.store_pair3.Tie as tie
-use Rattle.interpolate.proofs.store_pair3.Reads as reads
-use Rattle.interpolate.proofs.store_pair3.Lts as lts
-use Rattle.interpolate.proofs.pair_chroma8.Reads as pair-chroma8-reads
-use Rattle.interpolate.proofs.pixel8.Reads as pixel8-reads
-use Rattle.interpolate.proofs.store3.Reads as store3-reads
 
--- src/lib.rt:68:9
-pair-chroma8-requires : tie.Need-pair-chroma8-requires
-pair-chroma8-requires c κs = search needs
+pair-chroma-requires : tie.Need-pair-chroma-requires
+pair-chroma-requires c κs = search needs
 
--- src/lib.rt:69:9
-pair-chroma8-requires-2 : tie.Need-pair-chroma8-requires-2
-pair-chroma8-requires-2 c κs = search needs
+pair-chroma-requires-2 : tie.Need-pair-chroma-requires-2
+pair-chroma-requires-2 c κs = search needs
 
--- src/lib.rt:70:14
-mul-at : tie.Need-mul-at
-mul-at c = search needs
-
--- src/lib.rt:71:33
 mul-pixel8 : tie.Need-mul-pixel8
 mul-pixel8 c = search needs
 
--- src/lib.rt:71:31
 shared-slice-read-pixel8 : tie.Need-shared-slice-read-pixel8
 shared-slice-read-pixel8 c = search needs
 
--- src/lib.rt:71:21
 pixel8-requires : tie.Need-pixel8-requires
 pixel8-requires c κs = search needs
 
--- src/lib.rt:71:5
-store3-requires : tie.Need-store3-requires
-store3-requires c κs = search needs
-
--- src/lib.rt:72:17
-add-store3 : tie.Need-add-store3
-add-store3 c = search needs
-
--- src/lib.rt:72:37
 mul-pixel8-2 : tie.Need-mul-pixel8-2
 mul-pixel8-2 c = search needs
 
--- src/lib.rt:72:37
 add-pixel8 : tie.Need-add-pixel8
 add-pixel8 c = search needs
 
--- src/lib.rt:72:35
 shared-slice-read-pixel8-2 : tie.Need-shared-slice-read-pixel8-2
 shared-slice-read-pixel8-2 c = search needs
 
--- src/lib.rt:72:25
 pixel8-requires-2 : tie.Need-pixel8-requires-2
 pixel8-requires-2 c κs = search needs
 
--- src/lib.rt:72:5
-store3-requires-2 : tie.Need-store3-requires-2
-store3-requires-2 c κs = ?
+mul-at : tie.Need-mul-at
+mul-at c = search needs
 
--- src/lib.rt:64:1
+store3-requires : tie.Need-store3-requires
+store3-requires c κs = search needs
+
+add-store3 : tie.Need-add-store3
+add-store3 c = omega (arith, c .before .before .before .before .before .before .before .before .before .before .before .before .before .before .before .before .before .pre .1 .places, c .before .before .before .before .before .before .before .before .before .before .before .before .before .before .before .before .before .good .0 .0)
+
+store3-requires-2 : tie.Need-store3-requires-2
+store3-requires-2 c κs = rw (c .before .before .before .store3 .ensures) (simp length-set (omega (arith, c .before .before .before .before .before .before .before .before .before .before .before .before .before .before .before .before .before .pre .1 .places)))
+
 same-length : tie.Need-same-length
 same-length c = search needs
 
--- src/lib.rt:64:1
 returns : tie.Need-returns
-returns c = ?
+returns c =
+    let a = c .before .before .before .before .before .before .before .before .before .before .before .before .before .before .before .before .before .before .before .before .args in
+    let p = c .before .before .before .before .before .before .before .before .before .before .before .before .before .pair-chroma .ensures in
+    let q = c .before .before .before .before .before .before .before .before .before .before .before .before .pair-chroma2 .ensures in
+    stored-twice (a .row .now) (c .before .before .before .before .before .before .store3 .last .0) (c .before .before .store32 .last .0)
+    (three (a .k) (at (a .y .now) (2 * a .j)) (leftOf (a .pn .now) (a .pf .now) (a .j)) (leftOf (a .qn .now) (a .qf .now) (a .j)))
+    (three (a .k) (at (a .y .now) (2 * a .j + 1)) (rightOf (a .pn .now) (a .pf .now) (a .j)) (rightOf (a .qn .now) (a .qf .now) (a .j)))
+    (6 * a .j) 3 refl
+    (c .before .before .before .before .before .before .store3 .ensures ∙ rw (c .before .before .before .before .before .before .before .before .before .before .pixel8 .ensures, p, q))
+    (c .before .before .store32 .ensures ∙ rw (c .before .before .before .before .before .before .before .before .pixel82 .ensures, p, q))
 
 pub store-pair3-spec : {M : Type 1} → statement M
 store-pair3-spec =
     tie.close
     (tie.spec
-    pair-chroma8-requires
-    pair-chroma8-requires-2
-    mul-at
+    pair-chroma-requires
+    pair-chroma-requires-2
     mul-pixel8
     shared-slice-read-pixel8
     pixel8-requires
-    store3-requires
-    add-store3
     mul-pixel8-2
     add-pixel8
     shared-slice-read-pixel8-2
     pixel8-requires-2
+    mul-at
+    store3-requires
+    add-store3
     store3-requires-2
     same-length
     returns)

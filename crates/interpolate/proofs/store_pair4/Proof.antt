@@ -1,93 +1,86 @@
+-- `interpolate::store_pair4` meets its contract.
+-- Assumes nothing.
 use borrow.Author.Needs.{needs}
+use mathlib.Core.Path.{_≡_, refl, _∙_}
+use Prim.Native.Nat.{_+_, _*_}
+use native.Mathlib.Omega.{arith}
+use lib.ListN.{length-set}
+use Rattle.numerics.specs.Row.{at, leftOf, rightOf, four}
+use Rattle.numerics.proofs.Row.{stored-twice}
 use Rattle.interpolate.proofs.store_pair4.Statement.{statement}
 use Rattle.interpolate.proofs.store_pair4.Tie as tie
-use Rattle.interpolate.proofs.store_pair4.Reads as reads
-use Rattle.interpolate.proofs.store_pair4.Lts as lts
-use Rattle.interpolate.proofs.pair_chroma8.Reads as pair-chroma8-reads
-use Rattle.interpolate.proofs.pixel8.Reads as pixel8-reads
-use Rattle.interpolate.proofs.store4.Reads as store4-reads
 
--- src/lib.rt:125:9
-pair-chroma8-requires : tie.Need-pair-chroma8-requires
-pair-chroma8-requires c κs = search needs
+pair-chroma-requires : tie.Need-pair-chroma-requires
+pair-chroma-requires c κs = search needs
 
--- src/lib.rt:126:9
-pair-chroma8-requires-2 : tie.Need-pair-chroma8-requires-2
-pair-chroma8-requires-2 c κs = search needs
+pair-chroma-requires-2 : tie.Need-pair-chroma-requires-2
+pair-chroma-requires-2 c κs = search needs
 
--- src/lib.rt:127:17
-cast-alpha : tie.Need-cast-alpha
-cast-alpha c = search needs
-
--- src/lib.rt:128:14
-mul-at : tie.Need-mul-at
-mul-at c = search needs
-
--- src/lib.rt:129:33
 mul-pixel8 : tie.Need-mul-pixel8
 mul-pixel8 c = search needs
 
--- src/lib.rt:129:31
 shared-slice-read-pixel8 : tie.Need-shared-slice-read-pixel8
 shared-slice-read-pixel8 c = search needs
 
--- src/lib.rt:129:21
 pixel8-requires : tie.Need-pixel8-requires
 pixel8-requires c κs = search needs
 
--- src/lib.rt:129:5
-store4-requires : tie.Need-store4-requires
-store4-requires c κs = search needs
-
--- src/lib.rt:130:17
-add-store4 : tie.Need-add-store4
-add-store4 c = ?
-
--- src/lib.rt:130:37
 mul-pixel8-2 : tie.Need-mul-pixel8-2
-mul-pixel8-2 c = ?
+mul-pixel8-2 c = search needs
 
--- src/lib.rt:130:37
 add-pixel8 : tie.Need-add-pixel8
-add-pixel8 c = ?
+add-pixel8 c = search needs
 
--- src/lib.rt:130:35
 shared-slice-read-pixel8-2 : tie.Need-shared-slice-read-pixel8-2
-shared-slice-read-pixel8-2 c = ?
+shared-slice-read-pixel8-2 c = search needs
 
--- src/lib.rt:130:25
 pixel8-requires-2 : tie.Need-pixel8-requires-2
 pixel8-requires-2 c κs = search needs
 
--- src/lib.rt:130:5
-store4-requires-2 : tie.Need-store4-requires-2
-store4-requires-2 c κs = ?
+mul-at : tie.Need-mul-at
+mul-at c = search needs
 
--- src/lib.rt:121:1
+store4-requires : tie.Need-store4-requires
+store4-requires c κs = search needs
+
+add-store4 : tie.Need-add-store4
+add-store4 c = omega (arith, c .before .before .before .before .before .before .before .before .before .before .before .before .before .before .before .before .before .pre .1 .places, c .before .before .before .before .before .before .before .before .before .before .before .before .before .before .before .before .before .good .0 .0)
+
+store4-requires-2 : tie.Need-store4-requires-2
+store4-requires-2 c κs = rw (c .before .before .before .store4 .ensures) (simp length-set (omega (arith, c .before .before .before .before .before .before .before .before .before .before .before .before .before .before .before .before .before .pre .1 .places)))
+
 same-length : tie.Need-same-length
 same-length c = search needs
 
--- src/lib.rt:121:1
 returns : tie.Need-returns
-returns c = ?
+returns c =
+    let a = c .before .before .before .before .before .before .before .before .before .before .before .before .before .before .before .before .before .before .before .before .args in
+    let p = c .before .before .before .before .before .before .before .before .before .before .before .before .before .pair-chroma .ensures in
+    let q = c .before .before .before .before .before .before .before .before .before .before .before .before .pair-chroma2 .ensures in
+    let m = c .before .before .before .before .before .before .before .before .before .before .before .before .before .before .before .before .before .before .before .before .pre .0 .max in
+    stored-twice (a .row .now) (c .before .before .before .before .before .before .store4 .last .0) (c .before .before .store42 .last .0)
+    (four (a .k) (at (a .y .now) (2 * a .j)) (leftOf (a .pn .now) (a .pf .now) (a .j)) (leftOf (a .qn .now) (a .qf .now) (a .j)))
+    (four (a .k) (at (a .y .now) (2 * a .j + 1)) (rightOf (a .pn .now) (a .pf .now) (a .j)) (rightOf (a .qn .now) (a .qf .now) (a .j)))
+    (8 * a .j) 4 refl
+    (c .before .before .before .before .before .before .store4 .ensures ∙ rw (c .before .before .before .before .before .before .before .before .before .before .pixel8 .ensures, p, q, m))
+    (c .before .before .store42 .ensures ∙ rw (c .before .before .before .before .before .before .before .before .pixel82 .ensures, p, q, m))
 
 pub store-pair4-spec : {M : Type 1} → statement M
 store-pair4-spec =
     tie.close
     (tie.spec
-    pair-chroma8-requires
-    pair-chroma8-requires-2
-    cast-alpha
-    mul-at
+    pair-chroma-requires
+    pair-chroma-requires-2
     mul-pixel8
     shared-slice-read-pixel8
     pixel8-requires
-    store4-requires
-    add-store4
     mul-pixel8-2
     add-pixel8
     shared-slice-read-pixel8-2
     pixel8-requires-2
+    mul-at
+    store4-requires
+    add-store4
     store4-requires-2
     same-length
     returns)

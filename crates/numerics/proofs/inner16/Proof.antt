@@ -1,39 +1,32 @@
+-- `numerics::inner16` meets its contract.
+-- Assumes nothing.
 use borrow.Author.Needs.{needs}
+use native.Mathlib.Omega.{arith}
+use Rattle.numerics.proofs.Products.{product-le}
 use Rattle.numerics.proofs.inner16.Statement.{statement}
 use Rattle.numerics.proofs.inner16.Tie as tie
-use Rattle.numerics.proofs.inner16.Reads as reads
-use Rattle.numerics.proofs.inner16.Lts as lts
-use Rattle.numerics.proofs.qrshr16.Reads as qrshr16-reads
 
--- src/lib.rt:118:17
 mul-taken : tie.Need-mul-taken
-mul-taken c = ?
+mul-taken c = omega (arith, product-le 65535 (c .args .ky) (c .args .y) (c .fits .y .fits), product-le 65535 (c .args .kp) (c .args .p) (c .fits .p .fits), product-le 65535 (c .args .kq) (c .args .q) (c .fits .q .fits))
 
--- src/lib.rt:118:44
 mul-taken-2 : tie.Need-mul-taken-2
-mul-taken-2 c = ?
+mul-taken-2 c = omega (arith, product-le 65535 (c .args .ky) (c .args .y) (c .fits .y .fits), product-le 65535 (c .args .kp) (c .args .p) (c .fits .p .fits), product-le 65535 (c .args .kq) (c .args .q) (c .fits .q .fits))
 
--- src/lib.rt:118:17
 add-taken : tie.Need-add-taken
-add-taken c = ?
+add-taken c = omega (arith, product-le 65535 (c .args .ky) (c .args .y) (c .fits .y .fits), product-le 65535 (c .args .kp) (c .args .p) (c .fits .p .fits), product-le 65535 (c .args .kq) (c .args .q) (c .fits .q .fits))
 
--- src/lib.rt:119:13
 mul-qrshr16 : tie.Need-mul-qrshr16
-mul-qrshr16 c = ?
+mul-qrshr16 c = omega (arith, product-le 65535 (c .args .ky) (c .args .y) (c .fits .y .fits), product-le 65535 (c .args .kp) (c .args .p) (c .fits .p .fits), product-le 65535 (c .args .kq) (c .args .q) (c .fits .q .fits))
 
--- src/lib.rt:119:13
 add-qrshr16 : tie.Need-add-qrshr16
-add-qrshr16 c = ?
+add-qrshr16 c = omega (arith, product-le 65535 (c .args .ky) (c .args .y) (c .fits .y .fits), product-le 65535 (c .args .kp) (c .args .p) (c .fits .p .fits), product-le 65535 (c .args .kq) (c .args .q) (c .fits .q .fits))
 
--- src/lib.rt:119:13
 sub-qrshr16 : tie.Need-sub-qrshr16
-sub-qrshr16 c = ?
+sub-qrshr16 c = omega (arith, product-le 65535 (c .args .ky) (c .args .y) (c .fits .y .fits), product-le 65535 (c .args .kp) (c .args .p) (c .fits .p .fits), product-le 65535 (c .args .kq) (c .args .q) (c .fits .q .fits))
 
--- src/lib.rt:119:5
 qrshr16-requires : tie.Need-qrshr16-requires
 qrshr16-requires c κs = search needs
 
--- src/lib.rt:114:1
 returns : tie.Need-returns
 returns c = search needs
 

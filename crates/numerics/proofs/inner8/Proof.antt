@@ -1,39 +1,32 @@
+-- `numerics::inner8` meets its contract.
+-- Assumes nothing.
 use borrow.Author.Needs.{needs}
+use native.Mathlib.Omega.{arith}
+use Rattle.numerics.proofs.Products.{product-le}
 use Rattle.numerics.proofs.inner8.Statement.{statement}
 use Rattle.numerics.proofs.inner8.Tie as tie
-use Rattle.numerics.proofs.inner8.Reads as reads
-use Rattle.numerics.proofs.inner8.Lts as lts
-use Rattle.numerics.proofs.qrshr8.Reads as qrshr8-reads
 
--- src/lib.rt:70:17
 mul-taken : tie.Need-mul-taken
-mul-taken c = ?
+mul-taken c = omega (arith, product-le 255 (c .args .ky) (c .args .y) (c .fits .y .fits), product-le 255 (c .args .kp) (c .args .p) (c .fits .p .fits), product-le 255 (c .args .kq) (c .args .q) (c .fits .q .fits))
 
--- src/lib.rt:70:44
 mul-taken-2 : tie.Need-mul-taken-2
-mul-taken-2 c = ?
+mul-taken-2 c = omega (arith, product-le 255 (c .args .ky) (c .args .y) (c .fits .y .fits), product-le 255 (c .args .kp) (c .args .p) (c .fits .p .fits), product-le 255 (c .args .kq) (c .args .q) (c .fits .q .fits))
 
--- src/lib.rt:70:17
 add-taken : tie.Need-add-taken
-add-taken c = ?
+add-taken c = omega (arith, product-le 255 (c .args .ky) (c .args .y) (c .fits .y .fits), product-le 255 (c .args .kp) (c .args .p) (c .fits .p .fits), product-le 255 (c .args .kq) (c .args .q) (c .fits .q .fits))
 
--- src/lib.rt:71:12
 mul-qrshr8 : tie.Need-mul-qrshr8
-mul-qrshr8 c = ?
+mul-qrshr8 c = omega (arith, product-le 255 (c .args .ky) (c .args .y) (c .fits .y .fits), product-le 255 (c .args .kp) (c .args .p) (c .fits .p .fits), product-le 255 (c .args .kq) (c .args .q) (c .fits .q .fits))
 
--- src/lib.rt:71:12
 add-qrshr8 : tie.Need-add-qrshr8
-add-qrshr8 c = ?
+add-qrshr8 c = omega (arith, product-le 255 (c .args .ky) (c .args .y) (c .fits .y .fits), product-le 255 (c .args .kp) (c .args .p) (c .fits .p .fits), product-le 255 (c .args .kq) (c .args .q) (c .fits .q .fits))
 
--- src/lib.rt:71:12
 sub-qrshr8 : tie.Need-sub-qrshr8
-sub-qrshr8 c = ?
+sub-qrshr8 c = omega (arith, product-le 255 (c .args .ky) (c .args .y) (c .fits .y .fits), product-le 255 (c .args .kp) (c .args .p) (c .fits .p .fits), product-le 255 (c .args .kq) (c .args .q) (c .fits .q .fits))
 
--- src/lib.rt:71:5
 qrshr8-requires : tie.Need-qrshr8-requires
-qrshr8-requires c κs = ?
+qrshr8-requires c κs = omega (arith, product-le 255 (c .args .ky) (c .args .y) (c .fits .y .fits), product-le 255 (c .args .kp) (c .args .p) (c .fits .p .fits), product-le 255 (c .args .kq) (c .args .q) (c .fits .q .fits))
 
--- src/lib.rt:66:1
 returns : tie.Need-returns
 returns c = search needs
 

@@ -1,31 +1,26 @@
+-- `numerics::outer16` meets its contract.
+-- Assumes nothing.
 use borrow.Author.Needs.{needs}
+use native.Mathlib.Omega.{arith}
+use Rattle.numerics.proofs.Products.{product-le}
 use Rattle.numerics.proofs.outer16.Statement.{statement}
 use Rattle.numerics.proofs.outer16.Tie as tie
-use Rattle.numerics.proofs.outer16.Reads as reads
-use Rattle.numerics.proofs.outer16.Lts as lts
-use Rattle.numerics.proofs.qrshr16.Reads as qrshr16-reads
 
--- src/lib.rt:111:13
 mul-qrshr16 : tie.Need-mul-qrshr16
-mul-qrshr16 c = ?
+mul-qrshr16 c = omega (arith, product-le 65535 (c .args .ky) (c .args .y) (c .fits .y .fits), product-le 65535 (c .args .kc) (c .args .c) (c .fits .c .fits))
 
--- src/lib.rt:111:40
 mul-qrshr16-2 : tie.Need-mul-qrshr16-2
-mul-qrshr16-2 c = ?
+mul-qrshr16-2 c = omega (arith, product-le 65535 (c .args .ky) (c .args .y) (c .fits .y .fits), product-le 65535 (c .args .kc) (c .args .c) (c .fits .c .fits))
 
--- src/lib.rt:111:13
 add-qrshr16 : tie.Need-add-qrshr16
-add-qrshr16 c = ?
+add-qrshr16 c = omega (arith, product-le 65535 (c .args .ky) (c .args .y) (c .fits .y .fits), product-le 65535 (c .args .kc) (c .args .c) (c .fits .c .fits))
 
--- src/lib.rt:111:13
 add-qrshr16-2 : tie.Need-add-qrshr16-2
-add-qrshr16-2 c = ?
+add-qrshr16-2 c = omega (arith, product-le 65535 (c .args .ky) (c .args .y) (c .fits .y .fits), product-le 65535 (c .args .kc) (c .args .c) (c .fits .c .fits))
 
--- src/lib.rt:111:5
 qrshr16-requires : tie.Need-qrshr16-requires
 qrshr16-requires c κs = search needs
 
--- src/lib.rt:107:1
 returns : tie.Need-returns
 returns c = search needs
 

@@ -1,31 +1,26 @@
+-- `numerics::outer8` meets its contract.
+-- Assumes nothing.
 use borrow.Author.Needs.{needs}
+use native.Mathlib.Omega.{arith}
+use Rattle.numerics.proofs.Products.{product-le}
 use Rattle.numerics.proofs.outer8.Statement.{statement}
 use Rattle.numerics.proofs.outer8.Tie as tie
-use Rattle.numerics.proofs.outer8.Reads as reads
-use Rattle.numerics.proofs.outer8.Lts as lts
-use Rattle.numerics.proofs.qrshr8.Reads as qrshr8-reads
 
--- src/lib.rt:63:12
 mul-qrshr8 : tie.Need-mul-qrshr8
-mul-qrshr8 c = ?
+mul-qrshr8 c = omega (arith, product-le 255 (c .args .ky) (c .args .y) (c .fits .y .fits), product-le 255 (c .args .kc) (c .args .c) (c .fits .c .fits))
 
--- src/lib.rt:63:39
 mul-qrshr8-2 : tie.Need-mul-qrshr8-2
-mul-qrshr8-2 c = ?
+mul-qrshr8-2 c = omega (arith, product-le 255 (c .args .ky) (c .args .y) (c .fits .y .fits), product-le 255 (c .args .kc) (c .args .c) (c .fits .c .fits))
 
--- src/lib.rt:63:12
 add-qrshr8 : tie.Need-add-qrshr8
-add-qrshr8 c = ?
+add-qrshr8 c = omega (arith, product-le 255 (c .args .ky) (c .args .y) (c .fits .y .fits), product-le 255 (c .args .kc) (c .args .c) (c .fits .c .fits))
 
--- src/lib.rt:63:12
 add-qrshr8-2 : tie.Need-add-qrshr8-2
-add-qrshr8-2 c = ?
+add-qrshr8-2 c = omega (arith, product-le 255 (c .args .ky) (c .args .y) (c .fits .y .fits), product-le 255 (c .args .kc) (c .args .c) (c .fits .c .fits))
 
--- src/lib.rt:63:5
 qrshr8-requires : tie.Need-qrshr8-requires
-qrshr8-requires c κs = ?
+qrshr8-requires c κs = omega (arith, product-le 255 (c .args .ky) (c .args .y) (c .fits .y .fits), product-le 255 (c .args .kc) (c .args .c) (c .fits .c .fits))
 
--- src/lib.rt:59:1
 returns : tie.Need-returns
 returns c = search needs
 
