@@ -1,0 +1,30 @@
+-- What the questions that held say of the numbers: 3 and 4 of the sides, 2 of the depth.
+-- Assumes nothing.
+use mathlib.Core.Path.{_≡_, refl}
+use mathlib.Core.Bool.{Bool, true, _&&_, and-eq-true-iff}
+use mathlib.Core.List.{[], _∷_}
+use Prim.Native.Nat.{ℕ, _≤_}
+use borrow.Author.Tests.{leb-true}
+use lib.Dec.{leb}
+use Rattle.yuv_support.specs.declared.Codes.{Codes}
+use Rattle.yuv_support.specs.Questions.{verdict, sides, codesKnown}
+use Rattle.yuv_support.proofs.Questions.{each-holds}
+
+pub record Sides (width height : ℕ) : Type 0 where
+  pub width-most : width ≤ 16384
+  pub height-least : 1 ≤ height
+
+pub sides-held : (width height : ℕ) → verdict (sides width height) .number ≡ 0 → Sides width height
+sides-held width height e =
+    let h = each-holds (sides width height) refl e in
+    record {
+      width-most = leb-true width 16384 (and-eq-true-iff (leb width 16384) _ .0 (h 1) .0);
+      height-least = leb-true 1 height (and-eq-true-iff (leb 1 width) _ .0 (h 0) .1);
+    }
+
+pub depth-held : (depthKnown : Bool) (c : Codes) → verdict (codesKnown depthKnown c ∷ []) .number ≡ 0 → depthKnown ≡ true
+depth-held depthKnown c e =
+    let h = each-holds (codesKnown depthKnown c ∷ []) refl e 0 in
+    let known = and-eq-true-iff (leb (c .order) 3) _ .0 h in
+    let known′ = and-eq-true-iff (leb (c .range) 1) _ .0 (known .1) in
+    and-eq-true-iff (leb (c .matrix) 6) depthKnown .0 (known′ .1) .1

@@ -1,0 +1,40 @@
+-- Inside the picture the other row is the far row: where a luma row blends one chroma row only, near and far are the same.
+-- Assumes nothing.
+use mathlib.Core.Path.{_≡_, refl, sym}
+use mathlib.Core.Bool.{Bool, true, false, cond}
+use Prim.Native.Nat.{ℕ, _/_, _%_, _≤_, _<_}
+use native.Mathlib.Omega.{arith}
+use borrow.Author.Tests.{ltb-false, eq-eqb, ne-eqb}
+use lib.Dec.{ltb}
+use Rattle.yuv_support.specs.declared.YuvChromaSubsampling.{YuvChromaSubsampling}
+use Rattle.yuv_support.specs.declared.YuvChromaSubsampling.the-variants.{Yuv420, Yuv422}
+use Rattle.yuv_support.specs.Blend.{one, two, rowsOf, chromaHeight, nextRow, nearRow, farRow}
+use Rattle.images.specs.Rows.{secondOf, otherRow}
+
+far-is-second : (t : Bool) (near far : ℕ) → (t ≡ false → near ≡ far) → far ≡ secondOf (cond t two one) near far
+far-is-second true near far e = refl
+far-is-second false near far e = sym (e refl)
+
+module _ (height row : ℕ) (inside : row < height) where
+  pub other-of-even : row % 2 ≡ 0 → nextRow height row ≡ otherRow Yuv420 height row
+  unfolding otherRow rowsOf nearRow farRow
+  other-of-even even =
+      simp (eq-eqb (row % 2) 0 even)
+      (far-is-second (ltb (row / 2) (height / 2)) (row / 2) (nextRow height row)
+      (λ f. let l : height / 2 ≤ row / 2 = ltb-false (row / 2) (height / 2) f in omega arith))
+
+  pub other-of-odd : (row % 2 ≡ 0 → ⊥) → row / 2 ≡ otherRow Yuv420 height row
+  unfolding otherRow rowsOf nearRow farRow
+  other-of-odd odd =
+      simp (ne-eqb (row % 2) 0 odd)
+      (far-is-second (ltb (row / 2) (height / 2)) (nextRow height row) (row / 2)
+      (λ f. let l : height / 2 ≤ row / 2 = ltb-false (row / 2) (height / 2) f in omega arith))
+
+pub other-of-422 : (height row : ℕ) → row ≡ otherRow Yuv422 height row
+unfolding otherRow rowsOf nearRow farRow
+other-of-422 height row = refl
+
+pub chroma-row-exists : (s : YuvChromaSubsampling) (height : ℕ) → 1 ≤ height → 1 ≤ chromaHeight s height
+unfolding chromaHeight
+chroma-row-exists Yuv420 height h = omega arith
+chroma-row-exists Yuv422 height h = h

@@ -1,0 +1,30 @@
+-- `images::check_codes` meets its contract. Each return rewrites with the tests that led there.
+-- Assumes nothing.
+use borrow.Author.Tests.{le-leb, lt-leb}
+use Rattle.yuv_support.specs.Questions.{verdict}
+use Rattle.yuv_error.specs.Told.{told}
+use Rattle.images.proofs.check_codes.Statement.{statement}
+use Rattle.images.proofs.check_codes.Tie as tie
+
+returns : tie.Need-returns
+unfolding verdict told
+returns c = simp (lt-leb _ _ (c .if1 .taken))
+
+returns-2 : tie.Need-returns-2
+unfolding verdict told
+returns-2 c = simp (le-leb _ _ (c .before .before .if1 .left), lt-leb _ _ (c .if2 .taken))
+
+returns-3 : tie.Need-returns-3
+unfolding verdict told
+returns-3 c = simp (le-leb _ _ (c .before .before .before .before .if1 .left), le-leb _ _ (c .before .before .if2 .left), lt-leb _ _ (c .if3 .taken))
+
+returns-4 : tie.Need-returns-4
+unfolding verdict told
+returns-4 c = simp (le-leb _ _ (c .before .before .before .before .before .if1 .left), le-leb _ _ (c .before .before .before .if2 .left), le-leb _ _ (c .before .if3 .left), c .if4 .taken)
+
+returns-5 : tie.Need-returns-5
+unfolding verdict told
+returns-5 c = simp (le-leb _ _ (c .before .before .before .before .before .if1 .left), le-leb _ _ (c .before .before .before .if2 .left), le-leb _ _ (c .before .if3 .left), c .if4 .left)
+
+pub check-codes-spec : {M : Type 1} → statement M
+check-codes-spec = tie.close (tie.spec returns returns-2 returns-3 returns-4 returns-5)

@@ -1,0 +1,4 @@
+pub mod Room
+pub mod Letters
+pub mod Rows
+pub mod Frames

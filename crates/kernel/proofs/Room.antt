@@ -1,0 +1,67 @@
+-- The sums of a kernel have room: shown at each depth and range, where the biases and the offset are numbers.
+-- Assumes nothing.
+use mathlib.Core.Path.{_≡_}
+use mathlib.Core.Bool.{Bool, true, false}
+use Prim.Native.Nat.{ℕ, _+_, _-_, _*_, _≤_}
+use native.Mathlib.Omega.{arith}
+use lib.Dec.{T}
+use Rattle.yuv_support.specs.declared.YuvRange.{YuvRange}
+use Rattle.yuv_support.specs.declared.YuvRange.the-variants.{Limited, Full}
+use Rattle.yuv_support.specs.declared.CbCrInverseTransform.{CbCrInverseTransform}
+use Rattle.yuv_support.specs.Settings.{among, depths, maxOf, biasY, biasC}
+use Rattle.yuv_support.proofs.Depths.{by-depth}
+use Rattle.inverse_transform.specs.Narrow.{Narrow}
+use Rattle.numerics.specs.Kernel.{Roomy}
+use Rattle.kernel.specs.Kernels.{offsetOf, mostOf, lettered, arranged}
+
+-- by and bc are the biases, most the largest sample
+pub record Room (by bc offset most ky kp gp gq kq : ℕ) : Type 0 where
+  pub top : offset ≤ 262144
+  pub first : ky * by + kp * bc ≤ offset * 8192 + 4096
+  pub third : ky * by + kq * bc ≤ offset * 8192 + 4096
+  pub green-bias : (gp + gq) * bc ≤ 67106816
+  pub green : (gp + gq) * most ≤ offset * 8192 + 4096 + (gp + gq) * bc - ky * by
+
+module _ (ky kp gp gq kq : ℕ) (n : Narrow (record { y = ky; cr = kp; cb = kq; g1 = gp; g2 = gq })) where
+  abbrev RoomAt : YuvRange → ℕ → Type 0
+  RoomAt r d = Room (biasY d r) (biasC d) (offsetOf d) (mostOf d) ky kp gp gq kq
+
+  pub room : (d : ℕ) (r : YuvRange) → T (among d depths) → Room (biasY d r) (biasC d) (offsetOf d) (mostOf d) ky kp gp gq kq
+  unfolding biasY biasC offsetOf mostOf
+  room d Limited t =
+      let y = n .y in
+      let p = n .cr in
+      let q = n .cb in
+      let g = n .green in
+      by-depth (RoomAt Limited)
+      (record { top = omega arith; first = omega arith; third = omega arith; green-bias = omega arith; green = omega arith })
+      (record { top = omega arith; first = omega arith; third = omega arith; green-bias = omega arith; green = omega arith })
+      (record { top = omega arith; first = omega arith; third = omega arith; green-bias = omega arith; green = omega arith })
+      d t
+  room d Full t =
+      let y = n .y in
+      let p = n .cr in
+      let q = n .cb in
+      let g = n .green in
+      by-depth (RoomAt Full)
+      (record { top = omega arith; first = omega arith; third = omega arith; green-bias = omega arith; green = omega arith })
+      (record { top = omega arith; first = omega arith; third = omega arith; green-bias = omega arith; green = omega arith })
+      (record { top = omega arith; first = omega arith; third = omega arith; green-bias = omega arith; green = omega arith })
+      d t
+
+  pub lettered-roomy : (d : ℕ) (r : YuvRange) → T (among d depths) → Roomy (mostOf d) (lettered d r ky kp gp gq kq)
+  lettered-roomy d r t =
+      let m = room d r t in
+      let y = n .y in
+      let p = n .cr in
+      let q = n .cb in
+      let b = m .green-bias in
+      record {
+        luma = omega arith;
+        first = omega arith;
+        third = omega arith;
+        base-first = omega arith;
+        base-third = omega arith;
+        base-green = omega arith;
+        green = m .green;
+      }

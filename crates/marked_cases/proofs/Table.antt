@@ -1,0 +1,36 @@
+-- Document 01's marked cases hold: each is computed from the definitions on closed numbers and floats.
+-- Assumes nothing.
+use mathlib.Core.Path.{refl}
+use lib.Ieee.{ofInt, mul, sub, div, le}
+use Rattle.yuv_support.specs.Settings.{maxOf, biasY, biasC, rangeY, rangeC, weightR, weightB, weightG, weightsOf}
+use Rattle.yuv_support.specs.Coefficients.{exactY, exactOuter, exactInner, storedOf, isStored, ratio, greenWeight, outer, inner, roundAway, integer, computedOf, coefficientsOf, usable}
+use Rattle.yuv_support.specs.Blend.{sixteenths, chromaHeight}
+use Rattle.yuv_support.specs.Component.{step, sumOf, quotientOf, componentOf}
+use Rattle.yuv_support.specs.Picture.{lettersOf, channelsOf}
+use Rattle.yuv_support.specs.Questions.{verdict, questionsOf, settingsQuestions}
+use Rattle.settings_used.specs.Used.{settingsUsedOf}
+use Rattle.marked_cases.specs.Marked.{Marked}
+
+pub marked : Marked
+unfolding maxOf biasY biasC rangeY rangeC weightR weightB weightG weightsOf
+    exactY exactOuter exactInner storedOf isStored ratio greenWeight outer inner roundAway integer computedOf coefficientsOf usable
+    sixteenths chromaHeight step sumOf quotientOf componentOf lettersOf channelsOf verdict questionsOf settingsQuestions settingsUsedOf
+    ofInt mul sub div le
+marked = record {
+  sheet-pixels = (refl, refl);
+  one-row = λ ch c e. (refl, refl);
+  two-rows = λ ch. (refl, refl);
+  two-row-tail = λ b e. (refl, refl);
+  limited-bt709 = (refl, refl, refl, refl);
+  limited-bt601-10-bits = refl;
+  smpte240 = (refl, refl);
+  fcc = refl;
+  custom-weights = (
+    (refl, refl, refl),
+    ((refl, refl), (refl, refl), (refl, refl)),
+    ((refl, refl), (refl, refl), (refl, refl)),
+    refl,
+    refl,
+  );
+  largest-sides = (refl, refl, refl);
+}

@@ -1,0 +1,129 @@
+-- Document 01, "Marked cases": one field a case, in document 01's order, by the definitions that the entries' promises cite.
+-- Of the first case, the sheet, there are the two pixels, each from its samples.
+-- Definitions only.
+use Prim.Native.Nat.{ℕ, _*_}
+use mathlib.Core.Path.{_≡_}
+use mathlib.Core.Bool.{false}
+use mathlib.Core.List.{List, [], _∷_}
+use lib.Ieee.{Float, binary32, round}
+use Rattle.yuv_support.specs.declared.YuvRange.{YuvRange}
+use Rattle.yuv_support.specs.declared.YuvRange.the-variants.{Limited, Full}
+use Rattle.yuv_support.specs.declared.YuvStandardMatrix.{YuvStandardMatrix}
+use Rattle.yuv_support.specs.declared.YuvStandardMatrix.the-variants.{Bt601, Bt709, Smpte240, Fcc, Custom}
+use Rattle.yuv_support.specs.declared.YuvChromaSubsampling.the-variants.{Yuv420}
+use Rattle.yuv_support.specs.declared.YuvSourceChannels.the-variants.{Rgb}
+use Rattle.yuv_support.specs.declared.CbCrInverseTransform.{CbCrInverseTransform}
+use Rattle.yuv_support.specs.declared.Codes.{Codes}
+use Rattle.yuv_support.specs.declared.Settings.{Settings}
+use Rattle.yuv_support.specs.Settings.{depths8, biasC}
+use Rattle.yuv_support.specs.Coefficients.{coefficientsOf}
+use Rattle.yuv_support.specs.Blend.{Chroma, Cb, Cr, one, two, left, right, tail, sixteenths, rounded, chromaWidth, chromaHeight}
+use Rattle.yuv_support.specs.Component.{R, G, B, componentOf}
+use Rattle.yuv_support.specs.Questions.{Verdict, accepted, verdict, Request, extent, conversionQuestions}
+use Rattle.settings_used.specs.Used.{ofNumber, refusal, settingsUsedOf}
+
+-- the settings of a depth, a range and a matrix; sampling and order have no part in a component
+abbrev pub setting : ℕ → YuvRange → YuvStandardMatrix → Settings
+setting d r m = record { depth = d; sampling = Yuv420; order = Rgb; range = r; matrix = m }
+
+-- R, G and B from Y, U and V
+abbrev pub pixel : Settings → ℕ → ℕ → ℕ → List ℕ
+pixel s y u v = componentOf s R y u v ∷ componentOf s G y u v ∷ componentOf s B y u v ∷ []
+
+-- the same of neutral chroma
+abbrev pub neutral : Settings → ℕ → List ℕ
+neutral s y = pixel s y (biasC (s .depth)) (biasC (s .depth))
+
+-- R, G and B alike
+abbrev pub grey : ℕ → List ℕ
+grey n = n ∷ n ∷ n ∷ []
+
+-- y, cr, cb, g1, g2
+abbrev pub five : ℕ → ℕ → ℕ → ℕ → ℕ → CbCrInverseTransform
+five y cr cb g1 g2 = record { y = y; cr = cr; cb = cb; g1 = g1; g2 = g2 }
+
+-- ---- Custom
+
+-- the f32 nearest to n tenths
+abbrev pub tenths : ℕ → Float
+tenths n = round binary32 false n 10
+
+-- P holds at every known depth
+abbrev pub AtEachDepth : (ℕ → Type 0) → Type 0
+AtEachDepth P = P 8 × P 10 × P 12
+
+-- Custom with both weights k gets number 13 at depth d, in either range
+abbrev pub Number13 : Float → ℕ → Type 0
+Number13 k d = (settingsUsedOf d 0 6 k k ≡ refusal (ofNumber 13)) × (settingsUsedOf d 1 6 k k ≡ refusal (ofNumber 13))
+
+-- ---- a conversion
+
+-- bytes in full range, 4:2:0 to RGB, by a matrix's code and both weights k
+abbrev pub codes : ℕ → Float → Codes
+codes matrix k = record { depth = 8; sampling = 0; order = 0; range = 1; matrix = matrix; kr = k; kb = k }
+
+-- strides and buffers just large enough for the sides
+abbrev pub request : Codes → ℕ → ℕ → Request
+request c width height = record {
+  codes = c;
+  image = record {
+    width = width;
+    height = height;
+    «y_stride» = width;
+    «u_stride» = chromaWidth width;
+    «v_stride» = chromaWidth width;
+  };
+  y-length = width * height;
+  u-length = chromaWidth width * chromaHeight Yuv420 height;
+  v-length = chromaWidth width * chromaHeight Yuv420 height;
+  rgb = extent (width * 3 * height) (width * 3);
+}
+
+abbrev pub verdictOn : Codes → ℕ → ℕ → Verdict
+verdictOn c width height = verdict (conversionQuestions depths8 (request c width height))
+
+-- ---- the table
+
+pub record Marked : Type 0 where
+  -- "the sheet above": 8 bits, full, BT.601, U 128, V 228; Y 100: 240 29 100; Y 50: 190 0 50
+  pub sheet-pixels :
+      (pixel (setting 8 Full Bt601) 100 128 228 ≡ 240 ∷ 29 ∷ 100 ∷ [])
+      × (pixel (setting 8 Full Bt601) 50 128 228 ≡ 190 ∷ 0 ∷ 50 ∷ [])
+  -- "a,b = 10,20: left 13, right 18"
+  pub one-row : (ch : Chroma) (c e : ℕ) →
+      (rounded (sixteenths ch one left 10 20 c e) ≡ 13)
+      × (rounded (sixteenths ch one right 10 20 c e) ≡ 18)
+  -- "Far row 30,40 besides: 18, 23"
+  pub two-rows : (ch : Chroma) →
+      (rounded (sixteenths ch two left 10 20 30 40) ≡ 18)
+      × (rounded (sixteenths ch two right 10 20 30 40) ≡ 23)
+  -- "Tail near 10, far 30: Cb 15, Cr 25"
+  pub two-row-tail : (b e : ℕ) →
+      (rounded (sixteenths Cb two tail 10 b 30 e) ≡ 15)
+      × (rounded (sixteenths Cr two tail 10 b 30 e) ≡ 25)
+  -- "Limited BT.709, neutral, Y 0, 16, 235, 255: 0, 0, 255, 255"
+  pub limited-bt709 :
+      (neutral (setting 8 Limited Bt709) 0 ≡ grey 0)
+      × (neutral (setting 8 Limited Bt709) 16 ≡ grey 0)
+      × (neutral (setting 8 Limited Bt709) 235 ≡ grey 255)
+      × (neutral (setting 8 Limited Bt709) 255 ≡ grey 255)
+  -- "10 bits limited BT.601, neutral, Y 940: 1023"
+  pub limited-bt601-10-bits : neutral (setting 10 Limited Bt601) 940 ≡ grey 1023
+  -- "`Smpte240` 8 full, Y 100, V 178, U 128: R 191, G 89"
+  pub smpte240 :
+      (componentOf (setting 8 Full Smpte240) R 100 128 178 ≡ 191)
+      × (componentOf (setting 8 Full Smpte240) G 100 128 178 ≡ 89)
+  -- "`Fcc` 8 full: 8192, 11469, 14582, 5832, 2719 (y, cr, cb, g1, g2)"
+  pub fcc : coefficientsOf 8 Full Fcc ≡ five 8192 11469 14582 5832 2719
+  -- "Custom 0,0 full: 8192, 16384, 16384, 0, 0; 0.4,0.4 and 0.5,0.5: number 13"
+  pub custom-weights :
+      AtEachDepth (λ d. coefficientsOf d Full (Custom (tenths 0) (tenths 0)) ≡ five 8192 16384 16384 0 0)
+      × AtEachDepth (Number13 (tenths 4))
+      × AtEachDepth (Number13 (tenths 5))
+      × (verdictOn (codes 6 (tenths 4)) 2 2 ≡ ofNumber 13)
+      × (verdictOn (codes 6 (tenths 5)) 2 2 ≡ ofNumber 13)
+  -- "Sides 16,384 pass question 4; 16,385 do not"
+  pub largest-sides :
+      (verdictOn (codes 0 (tenths 0)) 16384 16384 ≡ accepted)
+      × (verdictOn (codes 0 (tenths 0)) 16385 16384 ≡ ofNumber 4)
+      × (verdictOn (codes 0 (tenths 0)) 16384 16385 ≡ ofNumber 4)

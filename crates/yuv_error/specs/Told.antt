@@ -1,0 +1,60 @@
+-- Number, expected and received of each answer, as document 01 numbers the questions.
+-- Definitions only.
+use Prim.Native.Nat.{ℕ, _+_}
+use Rattle.yuv_support.specs.Questions.{Verdict, accepted}
+use Rattle.yuv_error.specs.declared.MismatchedSize.{MismatchedSize}
+use Rattle.yuv_error.specs.declared.YuvError.{YuvError}
+use Rattle.yuv_error.specs.declared.YuvError.the-variants.{
+  Accepted,
+  UnknownSampling,
+  UnknownCode,
+  ZeroBaseSize,
+  PointerOverflow,
+  DestinationSizeMismatch,
+  MinimumStrideSizeMismatch,
+  LumaPlaneMinimumSizeMismatch,
+  LumaPlaneSizeMismatch,
+  UPlaneMinimumSizeMismatch,
+  UPlaneSizeMismatch,
+  VPlaneMinimumSizeMismatch,
+  VPlaneSizeMismatch,
+  UnusableWeights,
+  RowOutside,
+}
+use Rattle.yuv_error.specs.declared.Told.{Told}
+use Rattle.yuv_error.specs.declared.PlaneFault.{PlaneFault}
+use Rattle.yuv_error.specs.declared.PlaneFault.the-variants.{Nothing, Stride, Length}
+
+-- a "no" that names no sizes, and one that does
+abbrev pub refused : ℕ → Verdict
+refused number = record { number = number; expected = 0; received = 0 }
+
+abbrev pub mismatched : ℕ → MismatchedSize → Verdict
+mismatched number size = record { number = number; expected = size .expected; received = size .received }
+
+unfoldable pub told : YuvError → Verdict
+told Accepted = accepted
+told UnknownSampling = refused 1
+told UnknownCode = refused 2
+told ZeroBaseSize = refused 3
+told PointerOverflow = refused 4
+told (DestinationSizeMismatch size) = mismatched 5 size
+told (MinimumStrideSizeMismatch size) = mismatched 6 size
+told (LumaPlaneMinimumSizeMismatch size) = mismatched 7 size
+told (LumaPlaneSizeMismatch size) = mismatched 8 size
+told (UPlaneMinimumSizeMismatch size) = mismatched 9 size
+told (UPlaneSizeMismatch size) = mismatched 10 size
+told (VPlaneMinimumSizeMismatch size) = mismatched 11 size
+told (VPlaneSizeMismatch size) = mismatched 12 size
+told UnusableWeights = refused 13
+told RowOutside = refused 14
+
+-- the three numbers as the struct that is handed out
+abbrev pub asTold : Verdict → Told
+asTold v = record { number = v .number; expected = v .expected; received = v .received }
+
+-- the answer of a plane whose first question has this number
+unfoldable pub faultTold : ℕ → PlaneFault → Verdict
+faultTold number Nothing = accepted
+faultTold number (Stride size) = mismatched number size
+faultTold number (Length size) = mismatched (number + 1) size
