@@ -9,3 +9,4 @@ pub mod Overlay
 pub mod Rows
 pub mod Picture
 pub mod Questions
+pub mod Conversion

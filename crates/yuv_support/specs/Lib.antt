@@ -5,3 +5,4 @@ pub mod Component
 pub mod Picture
 pub mod Questions
 pub mod Distance
+pub mod Conversion
