@@ -1,8 +1,17 @@
 // The exported C functions: the public entries, by C names, for hosts that link the static library (include/dethrowg.h).
 // Each hands on to one entry and promises what that entry promises. Nothing is asked of the caller beyond what the header says of pointers.
 ghost use mathlib.Core.Path.{_≡_};
+ghost use Rattle.yuv_support.specs.Settings.{depths8, depths16};
+ghost use Rattle.yuv_support.specs.Conversion.{answerTo, destinationAfter, Demand3};
+ghost use Rattle.yuv_error.specs.Told.{asTold};
 ghost use Rattle.settings_used.specs.Used.{settingsUsedOf};
+ghost use Rattle.row_readers.specs.Readers.{extentOf, rowPlace, chromaRowPlace};
+ghost use Rattle.dethrowg.specs.Call.{codesOf, imageOf};
+use row_readers::Part;
 use settings_used::SettingsUsed;
+use yuv_error::Told;
+use yuv_support::Codes;
+use yuv_support::YuvPlanarImage;
 
 // The settings used at any codes and weights.
 #[no_mangle]
@@ -16,4 +25,142 @@ pub extern "C" fn dethrowg_coefficients(
     ensures { λ r. ⌜ r ≡ settingsUsedOf depth range matrix kr kb ⌝ }
 {
     settings_used::settings_used(depth, range, matrix, kr, kb)
+}
+
+// A conversion of byte planes.
+#[no_mangle]
+pub extern "C" fn dethrowg_yuv8_to_rgb(
+    depth: u32,
+    sampling: u32,
+    order: u32,
+    range: u32,
+    matrix: u32,
+    kr: f32,
+    kb: f32,
+    width: u32,
+    height: u32,
+    y: &[u8],
+    y_stride: u32,
+    u: &[u8],
+    u_stride: u32,
+    v: &[u8],
+    v_stride: u32,
+    rgb: &mut [u8],
+    rgb_stride: u32,
+) -> Told
+    ensures { λ r. ⌜ r ≡ asTold (answerTo depths8 (codesOf depth sampling order range matrix kr kb) (imageOf width height «y_stride» «u_stride» «v_stride») (now (y .entry)) (now (u .entry)) (now (v .entry)) «rgb_stride» (now (rgb .entry))) ⌝ }
+    ensures { λ r. ⌜ now (rgb .exit) ≡ destinationAfter depths8 (codesOf depth sampling order range matrix kr kb) (imageOf width height «y_stride» «u_stride» «v_stride») (now (y .entry)) (now (u .entry)) (now (v .entry)) «rgb_stride» (now (rgb .entry)) ⌝ }
+    ensures { λ r. ⌜ Demand3 depths8 (codesOf depth sampling order range matrix kr kb) (imageOf width height «y_stride» «u_stride» «v_stride») (now (y .entry)) (now (u .entry)) (now (v .entry)) «rgb_stride» (now (rgb .entry)) (now (rgb .exit)) ⌝ }
+{
+    let codes = Codes {
+        depth,
+        sampling,
+        order,
+        range,
+        matrix,
+        kr,
+        kb,
+    };
+    let image = YuvPlanarImage {
+        width,
+        height,
+        y_stride,
+        u_stride,
+        v_stride,
+    };
+    yuv_error::told_of(yuv_to_rgba_bilinear::yuv_to_rgbx_bilinear(
+        codes,
+        image,
+        y,
+        u,
+        v,
+        rgb,
+        rgb_stride,
+    ))
+}
+
+// Where the finished row stands in a destination of u8 elements.
+#[no_mangle]
+pub extern "C" fn dethrowg_row8(
+    order: u32,
+    width: u32,
+    height: u32,
+    rgb: &[u8],
+    rgb_stride: u32,
+    row: u32,
+) -> Part
+    ensures { λ r. ⌜ r ≡ rowPlace order width height (extentOf (now (rgb .entry)) «rgb_stride») row ⌝ }
+{
+    row_readers::finished_row_part8(order, width, height, rgb, rgb_stride, row)
+}
+
+// Where a luma row's near chroma row stands in the U plane or the V plane, of u8 elements.
+#[no_mangle]
+pub extern "C" fn dethrowg_chroma_row8(
+    sampling: u32,
+    plane: u32,
+    width: u32,
+    height: u32,
+    u: &[u8],
+    u_stride: u32,
+    v: &[u8],
+    v_stride: u32,
+    row: u32,
+) -> Part
+    ensures { λ r. ⌜ r ≡ chromaRowPlace sampling plane width height (extentOf (now (u .entry)) «u_stride») (extentOf (now (v .entry)) «v_stride») row ⌝ }
+{
+    row_readers::near_chroma_row_part8(
+        sampling,
+        plane,
+        width,
+        height,
+        u,
+        u_stride,
+        v,
+        v_stride,
+        row,
+    )
+}
+
+// Where the finished row stands in a destination of u16 elements.
+#[no_mangle]
+pub extern "C" fn dethrowg_row16(
+    order: u32,
+    width: u32,
+    height: u32,
+    rgb: &[u16],
+    rgb_stride: u32,
+    row: u32,
+) -> Part
+    ensures { λ r. ⌜ r ≡ rowPlace order width height (extentOf (now (rgb .entry)) «rgb_stride») row ⌝ }
+{
+    row_readers::finished_row_part16(order, width, height, rgb, rgb_stride, row)
+}
+
+// Where a luma row's near chroma row stands in the U plane or the V plane, of u16 elements.
+#[no_mangle]
+pub extern "C" fn dethrowg_chroma_row16(
+    sampling: u32,
+    plane: u32,
+    width: u32,
+    height: u32,
+    u: &[u16],
+    u_stride: u32,
+    v: &[u16],
+    v_stride: u32,
+    row: u32,
+) -> Part
+    ensures { λ r. ⌜ r ≡ chromaRowPlace sampling plane width height (extentOf (now (u .entry)) «u_stride») (extentOf (now (v .entry)) «v_stride») row ⌝ }
+{
+    row_readers::near_chroma_row_part16(
+        sampling,
+        plane,
+        width,
+        height,
+        u,
+        u_stride,
+        v,
+        v_stride,
+        row,
+    )
 }

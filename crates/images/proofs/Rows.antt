@@ -1,14 +1,15 @@
 -- Inside the picture the other row is the far row: where a luma row blends one chroma row only, near and far are the same.
+-- Both rows are rows of the chroma planes.
 -- Assumes nothing.
 use mathlib.Core.Path.{_≡_, refl, sym}
 use mathlib.Core.Bool.{Bool, true, false, cond}
-use Prim.Native.Nat.{ℕ, _/_, _%_, _≤_, _<_}
+use Prim.Native.Nat.{ℕ, _+_, _/_, _%_, _≤_, _<_}
 use native.Mathlib.Omega.{arith}
 use borrow.Author.Tests.{ltb-false, eq-eqb, ne-eqb}
-use lib.Dec.{ltb}
+use lib.Dec.{eqb, ltb}
 use Rattle.yuv_support.specs.declared.YuvChromaSubsampling.{YuvChromaSubsampling}
 use Rattle.yuv_support.specs.declared.YuvChromaSubsampling.the-variants.{Yuv420, Yuv422}
-use Rattle.yuv_support.specs.Blend.{one, two, rowsOf, chromaHeight, nextRow, nearRow, farRow}
+use Rattle.yuv_support.specs.Blend.{Rows, one, two, rowsOf, chromaHeight, nextRow, nearRow, farRow}
 use Rattle.images.specs.Rows.{secondOf, otherRow}
 
 far-is-second : (t : Bool) (near far : ℕ) → (t ≡ false → near ≡ far) → far ≡ secondOf (cond t two one) near far
@@ -38,3 +39,31 @@ pub chroma-row-exists : (s : YuvChromaSubsampling) (height : ℕ) → 1 ≤ heig
 unfolding chromaHeight
 chroma-row-exists Yuv420 height h = omega arith
 chroma-row-exists Yuv422 height h = h
+
+-- the near row and the other row lie in the planes
+near-of-420-below : (t : Bool) (height row : ℕ) → row < height → cond t (row / 2) (nextRow height row) < (height + 1) / 2
+near-of-420-below true height row inside = omega arith
+near-of-420-below false height row inside = omega arith
+
+pub near-row-below : (s : YuvChromaSubsampling) (height row : ℕ) → row < height → nearRow s height row < chromaHeight s height
+unfolding nearRow chromaHeight
+near-row-below Yuv420 height row inside = near-of-420-below (eqb (row % 2) 0) height row inside
+near-row-below Yuv422 height row inside = inside
+
+far-of-420-below : (t : Bool) (height row : ℕ) → row < height → cond t (nextRow height row) (row / 2) < (height + 1) / 2
+far-of-420-below true height row inside = omega arith
+far-of-420-below false height row inside = omega arith
+
+far-row-below : (s : YuvChromaSubsampling) (height row : ℕ) → row < height → farRow s height row < chromaHeight s height
+unfolding farRow chromaHeight
+far-row-below Yuv420 height row inside = far-of-420-below (eqb (row % 2) 0) height row inside
+far-row-below Yuv422 height row inside = inside
+
+second-below : (n : Rows) (near far rows : ℕ) → near < rows → far < rows → secondOf n near far < rows
+second-below one near far rows a b = a
+second-below two near far rows a b = b
+
+pub other-row-below : (s : YuvChromaSubsampling) (height row : ℕ) → row < height → otherRow s height row < chromaHeight s height
+unfolding otherRow
+other-row-below s height row inside =
+    second-below (rowsOf s height row) _ _ (chromaHeight s height) (near-row-below s height row inside) (far-row-below s height row inside)

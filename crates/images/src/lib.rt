@@ -2,14 +2,14 @@
 // A question is asked only where those before it held, so a later one may use what they said.
 ghost use mathlib.Core.Path.{_≡_};
 ghost use mathlib.Core.Bool.{true};
-ghost use mathlib.Core.List.{_∷_, [], _++_};
+ghost use mathlib.Core.List.{_∷_, []};
 ghost use Prim.Native.Nat.{_*_, _≤_, _<_};
 ghost use lib.Dec.{T, leb};
 ghost use Rattle.yuv_support.specs.Settings.{among, depths};
 ghost use Rattle.yuv_support.specs.Coefficients.{usable};
 ghost use Rattle.yuv_support.specs.Blend.{chromaWidth, chromaHeight, nextRow, nearRow};
 ghost use Rattle.yuv_support.specs.Picture.{channelsOf};
-ghost use Rattle.yuv_support.specs.Questions.{verdict, ask, extent, samplingKnown, codesKnown, plane, chromaPlanes, rowBelow, questionsOf, rowQuestions, chromaRowQuestions};
+ghost use Rattle.yuv_support.specs.Questions.{verdict, ask, extent, samplingKnown, codesKnown, chromaPlanes, rowBelow, questionsOf, rowQuestions, chromaRowQuestions};
 ghost use Rattle.yuv_error.specs.Told.{told};
 ghost use Rattle.images.specs.Rows.{otherRow};
 ghost use Rattle.images.specs.Request.{requestOf, constraints};

@@ -25,7 +25,7 @@ use Rattle.kernel.proofs.Letters.{letter-is}
 tail-is : (ch : Chroma) (a b c e : ℕ) → sixteenths ch two tail a b c e ≡ tailOf ch a c
 unfolding sixteenths
 tail-is Cb a b c e = refl
-tail-is Cr a b c e = refl
+tail-is Cr a b c e = omega arith
 
 -- N and F are the samples of the near and the far row at a column
 module _ (ch : Chroma) (width : ℕ) (near far : List ℕ) (N F : ℕ → ℕ) (last : ℕ)

@@ -62,4 +62,4 @@ thirdChroma false = Cr
 -- the tail's weights, in sixteenths: Cb takes more of the near row, and Cr more of the far one
 abbrev pub tailOf : Chroma → ℕ → ℕ → ℕ
 tailOf Cb near far = 12 * near + 4 * far
-tailOf Cr near far = 4 * near + 12 * far
+tailOf Cr near far = 12 * far + 4 * near

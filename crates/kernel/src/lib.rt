@@ -1,12 +1,13 @@
 // The kernel that a conversion works with, from the settings' coefficients.
 ghost use mathlib.Core.Path.{_≡_};
-ghost use mathlib.Core.Bool.{Bool};
 ghost use lib.Dec.{T};
 ghost use Rattle.yuv_support.specs.Settings.{among, depths};
+ghost use Rattle.yuv_support.specs.Coefficients.{usable};
 ghost use Rattle.inverse_transform.specs.Narrow.{Narrow};
-ghost use Rattle.kernel.specs.Kernels.{redFirst, offsetOf, lettered, arranged};
+ghost use Rattle.kernel.specs.Kernels.{redFirst, offsetOf, lettered, arranged, kernelOf};
 use numerics::Kernel;
 use yuv_support::CbCrInverseTransform;
+use yuv_support::Settings;
 use yuv_support::YuvRange;
 use yuv_support::YuvSourceChannels;
 
@@ -74,4 +75,16 @@ pub fn kernel_of(depth: u32, range: YuvRange, red_first: bool, t: CbCrInverseTra
         return lettered_kernel(depth, range, t.y, t.cr, t.g1, t.g2, t.cb);
     }
     lettered_kernel(depth, range, t.y, t.cb, t.g2, t.g1, t.cr)
+}
+
+// The kernel of settings that no question refuses.
+pub fn settings_kernel(s: Settings) -> Kernel
+    requires { ⌜ T (among (s .depth) depths) × T (usable (s .depth) (s .range) (s .matrix)) ⌝ }
+    ensures { λ r. ⌜ r ≡ kernelOf s ⌝ }
+{
+    let order = s.order;
+    let range = s.range;
+    let matrix = s.matrix;
+    let t = inverse_transform::search_inverse_transform(s.depth, range, matrix);
+    kernel_of(s.depth, range, is_red_first(order), t)
 }

@@ -1,7 +1,7 @@
 -- A test that passes is `true` and one that fails is `false`, so that `rw` picks the branch; and tests joined by `&&`, taken apart.
 -- Assumes nothing.
 use mathlib.Core.Path.{_≡_, refl}
-use mathlib.Core.Bool.{Bool, true, false, not, _&&_}
+use mathlib.Core.Bool.{Bool, true, false, not, _&&_, _||_}
 use Prim.Native.Nat.{ℕ, _≤_, _<_}
 use lib.Arith.{le→nltb}
 use lib.Dec.{T, ltb, lt→ltb}
@@ -26,3 +26,7 @@ both false b h = absurd h
 
 pub three : (a b c : Bool) → T (a && (b && c)) → T a × T b × T c
 three a b c h = let u = both a (b && c) h in let v = both b c (u .1) in (u .0, v .0, v .1)
+
+pub or-false : (t : Bool) → t ≡ (t || false)
+or-false true = refl
+or-false false = refl

@@ -5,6 +5,7 @@ ghost use Prim.Native.Nat.{_-_, _^_, _<_, _≤_};
 ghost use lib.Dec.{T};
 ghost use Rattle.yuv_support.specs.Settings.{samplingOf, orderOf, rangeOf, matrixOf, among, depths, maxOf, chromaRangeOf};
 ghost use Rattle.yuv_support.specs.Picture.{channelsOf};
+ghost use Rattle.yuv_support.specs.Questions.{decoded};
 
 // Which levels luma and chroma use.
 pub enum YuvRange {
@@ -137,6 +138,23 @@ pub fn matrix_of(code: u32, kr: f32, kb: f32) -> YuvStandardMatrix
         4 => YuvStandardMatrix::Bt470_6,
         5 => YuvStandardMatrix::Fcc,
         _ => YuvStandardMatrix::Custom(kr, kb),
+    }
+}
+
+// The settings that the codes stand for. Codes that questions 1 and 2 refuse stand for none.
+pub fn decode(codes: Codes) -> Settings
+    ensures { λ r. ⌜ r ≡ decoded codes ⌝ }
+{
+    let sampling = sampling_of(codes.sampling);
+    let order = order_of(codes.order);
+    let range = range_of(codes.range);
+    let matrix = matrix_of(codes.matrix, codes.kr, codes.kb);
+    Settings {
+        depth: codes.depth,
+        sampling,
+        order,
+        range,
+        matrix,
     }
 }
 

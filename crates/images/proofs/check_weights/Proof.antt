@@ -1,7 +1,8 @@
 -- `images::check_weights` meets its contract. What `is_usable` says of the coefficients found is question 13.
 -- Assumes nothing.
 use borrow.Author.Needs.{needs}
-use mathlib.Core.Path.{sym, _∙_}
+use mathlib.Core.Path.{_≡_, sym, _∙_}
+use Rattle.yuv_support.specs.Coefficients.{usable}
 use Rattle.yuv_support.specs.Questions.{verdict}
 use Rattle.yuv_error.specs.Told.{told}
 use Rattle.inverse_transform.proofs.Coefficients.{usable-from}
@@ -14,19 +15,18 @@ search-inverse-transform-requires c κs = search needs
 is-usable-requires : tie.Need-is-usable-requires
 is-usable-requires c κs = search needs
 
+usable-is-result : (c : tie.After-is-usable) → let a = c .before .before .args in usable (a .depth) (a .range) (a .matrix) ≡ c .is-usable .result
+usable-is-result c =
+    let a = c .before .before .args in
+    sym (usable-from (a .depth) (a .range) (a .matrix) _ _ (c .before .search-inverse-transform .ensures) (c .is-usable .ensures))
+
 returns : tie.Need-returns
 unfolding verdict told
-returns c =
-    let a = c .before .before .before .args in
-    let e = usable-from (a .depth) (a .range) (a .matrix) (c .before .before .search-inverse-transform .result) (c .before .is-usable .result) (c .before .before .search-inverse-transform .ensures) (c .before .is-usable .ensures) in
-    simp (sym e ∙ c .if1 .taken)
+returns c = simp (usable-is-result (c .before) ∙ c .if1 .taken)
 
 returns-2 : tie.Need-returns-2
 unfolding verdict told
-returns-2 c =
-    let a = c .before .before .before .args in
-    let e = usable-from (a .depth) (a .range) (a .matrix) (c .before .before .search-inverse-transform .result) (c .before .is-usable .result) (c .before .before .search-inverse-transform .ensures) (c .before .is-usable .ensures) in
-    simp (sym e ∙ c .if1 .left)
+returns-2 c = simp (usable-is-result (c .before) ∙ c .if1 .left)
 
 pub check-weights-spec : {M : Type 1} → statement M
 check-weights-spec =

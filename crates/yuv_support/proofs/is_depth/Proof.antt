@@ -1,14 +1,9 @@
 -- `yuv_support::is_depth` meets its contract.
 -- Assumes nothing.
-use mathlib.Core.Path.{_≡_, refl}
-use mathlib.Core.Bool.{Bool, true, false, _||_}
 use borrow.Author.Tests.{eq-eqb, ne-eqb}
+use Rattle.yuv_support.proofs.Tests.{or-false}
 use Rattle.yuv_support.proofs.is_depth.Statement.{statement}
 use Rattle.yuv_support.proofs.is_depth.Tie as tie
-
-or-false : (b : Bool) → b ≡ (b || false)
-or-false true = refl
-or-false false = refl
 
 returns : tie.Need-returns
 returns c = simp (eq-eqb _ _ (c .if1 .taken))

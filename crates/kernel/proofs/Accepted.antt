@@ -1,0 +1,60 @@
+-- What an accepted call gives the row functions, at either element width.
+-- Assumes nothing.
+use mathlib.Core.Path.{_≡_, refl, _∙_, subst⁻¹}
+use mathlib.Core.Bool.{true, false}
+use mathlib.Core.List.{List}
+use Prim.Native.Nat.{ℕ}
+use borrow.Author.Tests.{eqb-true}
+use lib.Dec.{T, eqb}
+use Rattle.yuv_support.specs.declared.Codes.{Codes}
+use Rattle.yuv_support.specs.declared.YuvPlanarImage.{YuvPlanarImage}
+use Rattle.yuv_support.specs.Settings.{among, depths}
+use Rattle.yuv_support.specs.Blend.{frameOf}
+use Rattle.yuv_support.specs.Picture.{picture}
+use Rattle.yuv_support.specs.Questions.{Verdict, decoded}
+use Rattle.yuv_support.specs.Conversion.{answerTo, destinationAfter, Demand3}
+use Rattle.yuv_support.proofs.Conversion.{accepted-call, demand3-met}
+use Rattle.kernel.specs.Kernels.{kernelOf}
+use Rattle.kernel.specs.Ordered.{Ready}
+
+pub accepted-ready : (known : List ℕ) (within : (d : ℕ) → T (among d known) → T (among d depths)) (codes : Codes) (image : YuvPlanarImage)
+    (y u v : List ℕ) (stride : ℕ) (rgb : List ℕ) → answerTo known codes image y u v stride rgb .number ≡ 0
+    → Ready (decoded codes) (frameOf image y u v) (kernelOf (decoded codes))
+accepted-ready known within codes image y u v stride rgb e =
+    let a = accepted-call known within codes image y u v stride rgb e in
+    record {
+      known = within (codes .depth) (a .depth);
+      weights = a .weights;
+      kernel = refl;
+      width-least = a .width-least;
+      width-most = a .width-most;
+      height-most = a .height-most;
+      y-length = a .y-length;
+      u-length = a .u-length;
+      v-length = a .v-length;
+    }
+
+-- ---- the promises of an entry, from its answer a and what it left in the destination
+
+module _ (known : List ℕ) (within : (d : ℕ) → T (among d known) → T (among d depths)) (codes : Codes) (image : YuvPlanarImage)
+    (y u v : List ℕ) (stride : ℕ) (rgb : List ℕ) (a : Verdict) (e : a ≡ answerTo known codes image y u v stride rgb) where
+  pub number-zero : eqb (a .number) 0 ≡ true → answerTo known codes image y u v stride rgb .number ≡ 0
+  number-zero t = rw e at (eqb-true (a .number) 0 t)
+
+  promised : (out : List ℕ) → out ≡ destinationAfter known codes image y u v stride rgb
+      → (a ≡ answerTo known codes image y u v stride rgb)
+      × ((out ≡ destinationAfter known codes image y u v stride rgb) × Demand3 known codes image y u v stride rgb out)
+  promised out o =
+      (e, (o, subst⁻¹ (λ (l : List ℕ). Demand3 known codes image y u v stride rgb l) o (demand3-met known within codes image y u v stride rgb)))
+
+  pub converted : eqb (a .number) 0 ≡ true → (out : List ℕ) → out ≡ picture (decoded codes) (frameOf image y u v) stride rgb
+      → (a ≡ answerTo known codes image y u v stride rgb)
+      × ((out ≡ destinationAfter known codes image y u v stride rgb) × Demand3 known codes image y u v stride rgb out)
+  unfolding destinationAfter
+  converted t out o = promised out (o ∙ rw (rw e at t))
+
+  pub untouched : eqb (a .number) 0 ≡ false
+      → (a ≡ answerTo known codes image y u v stride rgb)
+      × ((rgb ≡ destinationAfter known codes image y u v stride rgb) × Demand3 known codes image y u v stride rgb rgb)
+  unfolding destinationAfter
+  untouched t = promised rgb (rw (rw e at t))

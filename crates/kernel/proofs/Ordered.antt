@@ -1,0 +1,37 @@
+-- A row in a channel order asks of the row functions what it asks itself; U and V may be exchanged.
+-- Assumes nothing.
+use mathlib.Core.Path.{_≡_, ap, _∙_}
+use mathlib.Core.List.{List}
+use Prim.Native.Nat.{ℕ, _*_}
+use native.Mathlib.Nat.{mul-comm}
+use lib.ListN.{length}
+use Rattle.yuv_support.specs.declared.YuvSourceChannels.{YuvSourceChannels}
+use Rattle.yuv_support.specs.Picture.{channelsOf}
+use Rattle.numerics.specs.Row.{RowFits}
+use Rattle.kernel.specs.Ordered.{OrderedFits}
+
+module _ {o : YuvSourceChannels} {row y un uf vn vf : List ℕ} {width : ℕ} (n : ℕ) (e : channelsOf o ≡ n) (f : OrderedFits o row y un uf vn vf width) where
+  places : length row ≡ n * width
+  places = f .places ∙ mul-comm width (channelsOf o) ∙ ap (λ (m : ℕ). m * width) e
+
+  pub u-first : RowFits n row y un uf vn vf width
+  u-first = record {
+    some = f .some;
+    places = places;
+    luma = f .luma;
+    first-near = f .u-near;
+    first-far = f .u-far;
+    third-near = f .v-near;
+    third-far = f .v-far;
+  }
+
+  pub v-first : RowFits n row y vn vf un uf width
+  v-first = record {
+    some = f .some;
+    places = places;
+    luma = f .luma;
+    first-near = f .v-near;
+    first-far = f .v-far;
+    third-near = f .u-near;
+    third-far = f .u-far;
+  }

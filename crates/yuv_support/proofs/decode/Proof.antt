@@ -1,0 +1,25 @@
+-- `yuv_support::decode` meets its contract.
+-- Assumes nothing.
+use borrow.Author.Needs.{needs}
+use Rattle.yuv_support.proofs.decode.Statement.{statement}
+use Rattle.yuv_support.proofs.decode.Tie as tie
+
+sampling-of-requires : tie.Need-sampling-of-requires
+sampling-of-requires c κs = search needs
+
+order-of-requires : tie.Need-order-of-requires
+order-of-requires c κs = search needs
+
+range-of-requires : tie.Need-range-of-requires
+range-of-requires c κs = search needs
+
+matrix-of-requires : tie.Need-matrix-of-requires
+matrix-of-requires c κs = search needs
+
+returns : tie.Need-returns
+returns c = rw (c .before .before .before .sampling-of .ensures, c .before .before .order-of .ensures, c .before .range-of .ensures, c .matrix-of .ensures)
+
+pub decode-spec : {M : Type 1} → statement M
+decode-spec =
+    tie.close
+    (tie.spec sampling-of-requires order-of-requires range-of-requires matrix-of-requires returns)
