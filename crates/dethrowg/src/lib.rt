@@ -79,6 +79,58 @@ pub extern "C" fn dethrowg_yuv8_to_rgb(
     ))
 }
 
+// A conversion of u16 planes of 10 or 12 bits.
+#[no_mangle]
+pub extern "C" fn dethrowg_yuv16_to_rgb(
+    depth: u32,
+    sampling: u32,
+    order: u32,
+    range: u32,
+    matrix: u32,
+    kr: f32,
+    kb: f32,
+    width: u32,
+    height: u32,
+    y: &[u16],
+    y_stride: u32,
+    u: &[u16],
+    u_stride: u32,
+    v: &[u16],
+    v_stride: u32,
+    rgb: &mut [u16],
+    rgb_stride: u32,
+) -> Told
+    ensures { λ r. ⌜ r ≡ asTold (answerTo depths16 (codesOf depth sampling order range matrix kr kb) (imageOf width height «y_stride» «u_stride» «v_stride») (now (y .entry)) (now (u .entry)) (now (v .entry)) «rgb_stride» (now (rgb .entry))) ⌝ }
+    ensures { λ r. ⌜ now (rgb .exit) ≡ destinationAfter depths16 (codesOf depth sampling order range matrix kr kb) (imageOf width height «y_stride» «u_stride» «v_stride») (now (y .entry)) (now (u .entry)) (now (v .entry)) «rgb_stride» (now (rgb .entry)) ⌝ }
+    ensures { λ r. ⌜ Demand3 depths16 (codesOf depth sampling order range matrix kr kb) (imageOf width height «y_stride» «u_stride» «v_stride») (now (y .entry)) (now (u .entry)) (now (v .entry)) «rgb_stride» (now (rgb .entry)) (now (rgb .exit)) ⌝ }
+{
+    let codes = Codes {
+        depth,
+        sampling,
+        order,
+        range,
+        matrix,
+        kr,
+        kb,
+    };
+    let image = YuvPlanarImage {
+        width,
+        height,
+        y_stride,
+        u_stride,
+        v_stride,
+    };
+    yuv_error::told_of(yuv_p16_to_rgba16_bilinear::yuv16_to_rgbx_bilinear(
+        codes,
+        image,
+        y,
+        u,
+        v,
+        rgb,
+        rgb_stride,
+    ))
+}
+
 // Where the finished row stands in a destination of u8 elements.
 #[no_mangle]
 pub extern "C" fn dethrowg_row8(

@@ -1,0 +1,152 @@
+// The rows of a picture with u16 samples, one after the other.
+ghost use mathlib.Core.Path.{_≡_};
+ghost use Prim.Native.Nat.{_+_, _*_, _≤_, _<_};
+ghost use lib.ListN.{length};
+ghost use Rattle.yuv_support.specs.Blend.{frameOf};
+ghost use Rattle.yuv_support.specs.Picture.{channelsOf, rowOf, elementOf, band};
+ghost use Rattle.yuv_support.specs.Questions.{needed};
+ghost use Rattle.numerics.specs.Kernel.{Words};
+ghost use Rattle.kernel.specs.Ordered.{orderedValue, OrderedFits, Ready};
+use numerics::Kernel;
+use yuv_support::Settings;
+use yuv_support::YuvPlanarImage;
+use yuv_support::YuvSourceChannels;
+
+// One row in a channel order. The order is tested here, outside the loops: blue goes first by exchanging U and V.
+// In the tail Cr takes more of the far row, as the source has it.
+fn interpolate_row(
+    row: &mut [u16],
+    y: &[u16],
+    un: &[u16],
+    uf: &[u16],
+    vn: &[u16],
+    vf: &[u16],
+    width: usize,
+    order: YuvSourceChannels,
+    k: Kernel,
+)
+    requires { ⌜ Words k × OrderedFits order (now row) (now y) (now un) (now uf) (now vn) (now vf) width ⌝ }
+    ensures { λ _. ⌜ now (row .exit) ≡ rowOf (λ r. orderedValue k order width (now (y .entry)) (now (un .entry)) (now (uf .entry)) (now (vn .entry)) (now (vf .entry))) 0 (now (row .entry)) ⌝ }
+{
+    let last = (width + 1) / 2 - 1;
+    let cb = numerics::tail16(un[last], uf[last]);
+    let cr = numerics::tail16(vf[last], vn[last]);
+    match order {
+        YuvSourceChannels::Rgb => interpolate16::interpolate3(
+            row,
+            y,
+            vn,
+            vf,
+            un,
+            uf,
+            cr,
+            cb,
+            width,
+            k,
+        ),
+        YuvSourceChannels::Rgba => interpolate16::interpolate4(
+            row,
+            y,
+            vn,
+            vf,
+            un,
+            uf,
+            cr,
+            cb,
+            width,
+            k,
+        ),
+        YuvSourceChannels::Bgra => interpolate16::interpolate4(
+            row,
+            y,
+            un,
+            uf,
+            vn,
+            vf,
+            cb,
+            cr,
+            width,
+            k,
+        ),
+        YuvSourceChannels::Bgr => interpolate16::interpolate3(
+            row,
+            y,
+            un,
+            uf,
+            vn,
+            vf,
+            cb,
+            cr,
+            width,
+            k,
+        ),
+    }
+}
+
+// Row r of the picture, into a part that is as long as the row.
+fn convert_row(
+    row: &mut [u16],
+    y: &[u16],
+    u: &[u16],
+    v: &[u16],
+    s: Settings,
+    image: YuvPlanarImage,
+    k: Kernel,
+    r: u32,
+)
+    requires { ⌜ Words k × Ready s (frameOf image (now y) (now u) (now v)) k ⌝ }
+    requires { ⌜ (r < image .height) × (length (now row) ≡ image .width * channelsOf (s .order)) ⌝ }
+    ensures { λ _. ⌜ now (row .exit) ≡ rowOf (elementOf s (frameOf image (now (y .entry)) (now (u .entry)) (now (v .entry)))) r (now (row .entry)) ⌝ }
+{
+    let width = image.width as usize;
+    let columns = images::chroma_width(image.width) as usize;
+    let sampling = s.sampling;
+    let order = s.order;
+    let near = images::near_row(sampling, image.height, r) as usize;
+    let far = images::other_row(sampling, image.height, r) as usize;
+    let at = image.y_stride as usize * r as usize;
+    let un = image.u_stride as usize * near;
+    let uf = image.u_stride as usize * far;
+    let vn = image.v_stride as usize * near;
+    let vf = image.v_stride as usize * far;
+    interpolate_row(
+        row,
+        &y[at..at + width],
+        &u[un..un + columns],
+        &u[uf..uf + columns],
+        &v[vn..vn + columns],
+        &v[vf..vf + columns],
+        width,
+        order,
+        k,
+    );
+}
+
+// `count` rows from row `first` on. All else in the destination is kept.
+pub fn convert_rows(
+    rgb: &mut [u16],
+    y: &[u16],
+    u: &[u16],
+    v: &[u16],
+    s: Settings,
+    image: YuvPlanarImage,
+    rgb_stride: u32,
+    k: Kernel,
+    first: u32,
+    count: u32,
+)
+    requires { ⌜ Words k × Ready s (frameOf image (now y) (now u) (now v)) k ⌝ }
+    requires { ⌜ (first + count ≤ image .height) × (image .width * channelsOf (s .order) ≤ «rgb_stride») × (needed «rgb_stride» (image .width * channelsOf (s .order)) (image .height) ≤ length (now rgb)) ⌝ }
+    ensures { λ _. ⌜ now (rgb .exit) ≡ band s (frameOf image (now (y .entry)) (now (u .entry)) (now (v .entry))) «rgb_stride» first count (now (rgb .entry)) ⌝ }
+{
+    let order = s.order;
+    let n = images::row_length(image.width, order) as usize;
+    let stride = rgb_stride as usize;
+    let end = first + count;
+    let mut r = first;
+    while r < end {
+        let at = stride * r as usize;
+        convert_row(&mut rgb[at..at + n], y, u, v, s, image, k, r);
+        r += 1;
+    }
+}

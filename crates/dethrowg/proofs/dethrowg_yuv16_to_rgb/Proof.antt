@@ -1,0 +1,24 @@
+-- `dethrowg::dethrowg_yuv16_to_rgb` meets its contract.
+-- Assumes nothing.
+use borrow.Author.Needs.{needs}
+use mathlib.Core.Path.{_∙_}
+use Rattle.dethrowg.proofs.dethrowg_yuv16_to_rgb.Statement.{statement}
+use Rattle.dethrowg.proofs.dethrowg_yuv16_to_rgb.Tie as tie
+
+yuv16-to-rgbx-bilinear-requires : tie.Need-yuv16-to-rgbx-bilinear-requires
+yuv16-to-rgbx-bilinear-requires c κs = search needs
+
+told-of-requires : tie.Need-told-of-requires
+told-of-requires c κs = search needs
+
+same-length : tie.Need-same-length
+same-length c = search needs
+
+returns : tie.Need-returns
+returns c =
+    let e = c .before .before .before .yuv16-to-rgbx-bilinear .ensures in
+    (c .told-of .ensures ∙ rw (e .0), (e .1 .0, e .1 .1))
+
+pub dethrowg-yuv16-to-rgb-spec : {M : Type 1} → statement M
+dethrowg-yuv16-to-rgb-spec =
+    tie.close (tie.spec yuv16-to-rgbx-bilinear-requires told-of-requires same-length returns)

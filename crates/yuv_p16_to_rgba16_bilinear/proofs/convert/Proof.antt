@@ -1,0 +1,42 @@
+-- `yuv_p16_to_rgba16_bilinear::convert` meets its contract.
+-- Assumes nothing.
+use borrow.Author.Needs.{needs}
+use mathlib.Core.Path.{_∙_}
+use native.Mathlib.Omega.{arith}
+use Rattle.yuv_support.specs.Settings.{depths16}
+use Rattle.yuv_support.specs.Picture.{picture}
+use Rattle.yuv_support.specs.Questions.{decoded}
+use Rattle.yuv_support.proofs.Conversion.{depth-of-16, accepted-call}
+use Rattle.kernel.proofs.Widths.{kernel-words}
+use Rattle.kernel.proofs.Accepted.{accepted-ready}
+use Rattle.yuv_p16_to_rgba16_bilinear.proofs.convert.Statement.{statement}
+use Rattle.yuv_p16_to_rgba16_bilinear.proofs.convert.Tie as tie
+
+decode-requires : tie.Need-decode-requires
+decode-requires c κs = search needs
+
+settings-kernel-requires : tie.Need-settings-kernel-requires
+settings-kernel-requires c κs =
+    let a = c .before .before .before .before .before .args in
+    let h = accepted-ready depths16 depth-of-16 (a .codes) (a .image) (a .y .now) (a .u .now) (a .v .now) (a .rgb-stride) (a .rgb .now) (c .before .before .before .before .before .pre) in
+    rw (c .decode .ensures) (h .known, h .weights)
+
+convert-rows-requires : tie.Need-convert-rows-requires
+convert-rows-requires c κs =
+    let a = c .before .before .before .before .before .before .before .args in
+    let h = accepted-call depths16 depth-of-16 (a .codes) (a .image) (a .y .now) (a .u .now) (a .v .now) (a .rgb-stride) (a .rgb .now) (c .before .before .before .before .before .before .before .pre) in
+    let ready = accepted-ready depths16 depth-of-16 (a .codes) (a .image) (a .y .now) (a .u .now) (a .v .now) (a .rgb-stride) (a .rgb .now) (c .before .before .before .before .before .before .before .pre) in
+    rw (c .before .settings-kernel .ensures, c .before .before .decode .ensures)
+    ((kernel-words (decoded (a .codes)) (ready .weights) (h .depth), ready), (omega arith, h .rgb-stride, h .rgb-length))
+
+same-length : tie.Need-same-length
+same-length c = search needs
+
+returns : tie.Need-returns
+unfolding picture
+returns c = c .before .before .convert-rows .ensures ∙ rw (c .before .before .before .before .before .decode .ensures)
+
+pub convert-spec : {M : Type 1} → statement M
+convert-spec =
+    tie.close
+    (tie.spec decode-requires settings-kernel-requires convert-rows-requires same-length returns)

@@ -1,0 +1,71 @@
+// Planar Y, Cb, Cr with u16 samples of 10 or 12 bits to RGB, RGBA, BGRA or BGR, with bilinear chroma: the public conversion.
+// Nothing is asked of the caller. A call that a question refuses changes no buffer; an accepted one leaves the finished picture.
+ghost use mathlib.Core.Path.{_≡_};
+ghost use lib.Dec.{T};
+ghost use Rattle.yuv_support.specs.Settings.{depths16, among};
+ghost use Rattle.yuv_support.specs.Blend.{frameOf};
+ghost use Rattle.yuv_support.specs.Picture.{picture};
+ghost use Rattle.yuv_support.specs.Questions.{decoded};
+ghost use Rattle.yuv_support.specs.Conversion.{answerTo, destinationAfter, Demand3};
+ghost use Rattle.yuv_error.specs.Told.{told};
+use images::Lengths;
+use yuv_error::YuvError;
+use yuv_support::Codes;
+use yuv_support::YuvPlanarImage;
+
+// Whether a depth is known with u16 planes.
+fn is_known_depth(depth: u32) -> bool
+    ensures { λ r. ⌜ r ≡ among depth depths16 ⌝ }
+{
+    if depth == 10 {
+        return true;
+    }
+    depth == 12
+}
+
+// All rows of an accepted call.
+fn convert(
+    codes: Codes,
+    image: YuvPlanarImage,
+    y: &[u16],
+    u: &[u16],
+    v: &[u16],
+    rgb: &mut [u16],
+    rgb_stride: u32,
+)
+    requires { ⌜ answerTo depths16 codes image (now y) (now u) (now v) «rgb_stride» (now rgb) .number ≡ 0 ⌝ }
+    ensures { λ _. ⌜ now (rgb .exit) ≡ picture (decoded codes) (frameOf image (now (y .entry)) (now (u .entry)) (now (v .entry))) «rgb_stride» (now (rgb .entry)) ⌝ }
+{
+    let s = yuv_support::decode(codes);
+    let k = kernel::settings_kernel(s);
+    convert16::convert_rows(rgb, y, u, v, s, image, rgb_stride, k, 0, image.height);
+}
+
+// Codes, sides and strides are judged with the lengths of the four buffers by questions 1 to 13, in that order; the first "no" is the
+// answer. Strides count elements. Buffers may be longer than needed; what is not a pixel is kept.
+pub fn yuv16_to_rgbx_bilinear(
+    codes: Codes,
+    image: YuvPlanarImage,
+    y: &[u16],
+    u: &[u16],
+    v: &[u16],
+    rgb: &mut [u16],
+    rgb_stride: u32,
+) -> YuvError
+    ensures { λ r. ⌜ told r ≡ answerTo depths16 codes image (now (y .entry)) (now (u .entry)) (now (v .entry)) «rgb_stride» (now (rgb .entry)) ⌝ }
+    ensures { λ r. ⌜ now (rgb .exit) ≡ destinationAfter depths16 codes image (now (y .entry)) (now (u .entry)) (now (v .entry)) «rgb_stride» (now (rgb .entry)) ⌝ }
+    ensures { λ r. ⌜ Demand3 depths16 codes image (now (y .entry)) (now (u .entry)) (now (v .entry)) «rgb_stride» (now (rgb .entry)) (now (rgb .exit)) ⌝ }
+{
+    let lengths = Lengths {
+        y: y.len() as u64,
+        u: u.len() as u64,
+        v: v.len() as u64,
+        rgb: rgb.len() as u64,
+    };
+    let known = is_known_depth(codes.depth);
+    let answer = images::check_conversion(codes, image, lengths, rgb_stride, known);
+    if yuv_error::is_accepted(answer) {
+        convert(codes, image, y, u, v, rgb, rgb_stride);
+    }
+    answer
+}
