@@ -18,17 +18,15 @@ pub struct Pair16 {
     pub right: u16,
 }
 
-fn pair_chroma(near: &[u16], far: &[u16], j: usize) -> Pair16
-    requires { ⌜ (j + 1 < length (now near)) × (j + 1 < length (now far)) ⌝ }
+fn pair_chroma(near: &[u16], far: &[u16], j: usize, half: u32) -> Pair16
+    requires { ⌜ (j + 1 < length (now near)) × (j + 1 < length (now far)) × (half ≡ 8) ⌝ }
     ensures { λ r. ⌜ r ≡ record { left = leftOf (now (near .entry)) (now (far .entry)) j; right = rightOf (now (near .entry)) (now (far .entry)) j } ⌝ }
 {
-    let a = near[j];
-    let b = near[j + 1];
-    let c = far[j];
-    let e = far[j + 1];
+    let a = numerics::column16(near[j], far[j]);
+    let b = numerics::column16(near[j + 1], far[j + 1]);
     Pair16 {
-        left: numerics::left16(a, b, c, e),
-        right: numerics::right16(a, b, c, e),
+        left: numerics::left16(a, b, half),
+        right: numerics::right16(a, b, half),
     }
 }
 
@@ -56,8 +54,8 @@ fn store_pair3(
     requires { ⌜ Words k × PairsFit 3 (now row) (now y) (now pn) (now pf) (now qn) (now qf) (j + 1) ⌝ }
     ensures { λ _. ⌜ now (row .exit) ≡ sets (now (row .entry)) (6 * j) (pair3 k (now (y .entry)) (now (pn .entry)) (now (pf .entry)) (now (qn .entry)) (now (qf .entry)) j) ⌝ }
 {
-    let p = pair_chroma(pn, pf, j);
-    let q = pair_chroma(qn, qf, j);
+    let p = pair_chroma(pn, pf, j, k.half);
+    let q = pair_chroma(qn, qf, j, k.half);
     let a = numerics::pixel16(k, y[2 * j], p.left, q.left);
     let b = numerics::pixel16(k, y[2 * j + 1], p.right, q.right);
     let at = 6 * j;
@@ -145,8 +143,8 @@ fn store_pair4(
     requires { ⌜ Words k × PairsFit 4 (now row) (now y) (now pn) (now pf) (now qn) (now qf) (j + 1) ⌝ }
     ensures { λ _. ⌜ now (row .exit) ≡ sets (now (row .entry)) (8 * j) (pair4 k (now (y .entry)) (now (pn .entry)) (now (pf .entry)) (now (qn .entry)) (now (qf .entry)) j) ⌝ }
 {
-    let p = pair_chroma(pn, pf, j);
-    let q = pair_chroma(qn, qf, j);
+    let p = pair_chroma(pn, pf, j, k.half);
+    let q = pair_chroma(qn, qf, j, k.half);
     let a = numerics::pixel16(k, y[2 * j], p.left, q.left);
     let b = numerics::pixel16(k, y[2 * j + 1], p.right, q.right);
     let at = 8 * j;

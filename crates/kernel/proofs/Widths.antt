@@ -2,7 +2,7 @@
 -- Assumes nothing.
 use mathlib.Core.Path.{_≡_, refl, _∙_, subst}
 use mathlib.Core.Bool.{Bool, true, false}
-use Prim.Native.Nat.{ℕ}
+use Prim.Native.Nat.{ℕ, _≤_}
 use native.Mathlib.Omega.{arith}
 use lib.Dec.{T}
 use Rattle.yuv_support.specs.declared.YuvRange.{YuvRange}
@@ -34,6 +34,10 @@ module _ (d : ℕ) (r : YuvRange) (t : CbCrInverseTransform) (known : T (among d
   arranged-max true = refl
   arranged-max false = refl
 
+  arranged-half : (b : Bool) → arranged d r b t .half ≡ 8
+  arranged-half true = refl
+  arranged-half false = refl
+
 module _ (s : Settings) (u : T (usable (s .depth) (s .range) (s .matrix))) where
   abbrev transform : CbCrInverseTransform
   transform = coefficientsOf (s .depth) (s .range) (s .matrix)
@@ -50,6 +54,10 @@ module _ (s : Settings) (u : T (usable (s .depth) (s .range) (s .matrix))) where
   unfolding kernelOf
   max-is k = arranged-max (s .depth) (s .range) transform k (narrow (s .depth) (s .range) (s .matrix) k u) (redFirst (s .order))
 
+  half-is : T (among (s .depth) depths) → kernelOf s .half ≡ 8
+  unfolding kernelOf
+  half-is k = arranged-half (s .depth) (s .range) transform k (narrow (s .depth) (s .range) (s .matrix) k u) (redFirst (s .order))
+
   pub kernel-bytes : T (among (s .depth) depths8) → Bytes (kernelOf s)
   unfolding offsetOf mostOf maxOf
   kernel-bytes b =
@@ -61,10 +69,12 @@ module _ (s : Settings) (u : T (usable (s .depth) (s .range) (s .matrix))) where
       }
 
   pub kernel-words : T (among (s .depth) depths16) → Words (kernelOf s)
-  unfolding offsetOf mostOf
+  unfolding offsetOf mostOf maxOf
   kernel-words b =
       let k = depth-of-16 (s .depth) b in
       record {
         offset = offset-is k ∙ each-among (λ d. offsetOf d ≡ 262144) depths16 (refl, (refl, tt)) (s .depth) b;
+        max = rw (max-is k) (each-among (λ d. maxOf d ≤ 32767) depths16 (omega arith, (omega arith, tt)) (s .depth) b);
+        half = half-is k;
         roomy = subst (λ (m : ℕ). Roomy m (kernelOf s)) (each-among (λ d. mostOf d ≡ 65535) depths16 (refl, (refl, tt)) (s .depth) b) (roomy k);
       }

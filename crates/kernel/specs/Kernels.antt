@@ -41,6 +41,7 @@ lettered d r ky kp gp gq kq = record {
   «base_first» = offsetOf d * 8192 + 4096 - (ky * biasY d r + kp * biasC d);
   «base_green» = offsetOf d * 8192 + 4096 + (gp + gq) * biasC d - ky * biasY d r;
   «base_third» = offsetOf d * 8192 + 4096 - (ky * biasY d r + kq * biasC d);
+  half = 8;
 }
 
 abbrev pub arranged : ℕ → YuvRange → Bool → CbCrInverseTransform → Kernel

@@ -62,6 +62,7 @@ fn lettered_kernel(
         base_first: zero - (ky * by + kp * bc),
         base_green: zero + (gp + gq) * bc - ky * by,
         base_third: zero - (ky * by + kq * bc),
+        half: 8,
     }
 }
 

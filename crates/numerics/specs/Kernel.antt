@@ -51,4 +51,6 @@ pub record Bytes (k : Kernel) : Type 0 where
 
 pub record Words (k : Kernel) : Type 0 where
   pub offset : k .offset ≡ 262144
+  pub max : k .max ≤ 32767
+  pub half : k .half ≡ 8
   pub roomy : Roomy 65535 k

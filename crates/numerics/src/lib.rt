@@ -8,6 +8,7 @@ ghost use Rattle.yuv_support.specs.Blend.{rounded};
 ghost use Rattle.numerics.specs.Kernel.{shifted, outerOf, innerOf, firstOf, greenOf, thirdOf, Bytes, Words};
 
 // The coefficients of a pixel's letters, with the biases, the rounding and the offset folded into one constant for each letter.
+// half is 8, half of a sixteenth: a number of run time, so that the compiler keeps a blended u16 sample in 16 bits.
 pub struct Kernel {
     pub offset: u32,
     pub max: u16,
@@ -19,6 +20,7 @@ pub struct Kernel {
     pub base_first: u32,
     pub base_green: u32,
     pub base_third: u32,
+    pub half: u32,
 }
 
 // The letters of a pixel but for alpha.
@@ -91,21 +93,29 @@ fn saturating_sub32(a: u32, b: u32) -> u32
     if a < b { 0 } else { a - b }
 }
 
-fn at_most(a: u32, max: u16) -> u16
+// At most 32,767, which holds every depth: the packed 16-bit lanes of the compiler saturate there.
+fn at_most_32767(a: u32) -> u16
+    ensures { λ r. ⌜ r ≡ min a 32767 ⌝ }
+{
+    if 32767 < a { 32767 } else { a as u16 }
+}
+
+fn at_most(a: u16, max: u16) -> u16
     ensures { λ r. ⌜ r ≡ min a max ⌝ }
 {
-    if (max as u32) < a { max } else { a as u16 }
+    if max < a { max } else { a }
 }
 
 // Saturating rounding shift right, of a sum that is 262,144·8,192 above its value.
 fn qrshr16(sum: u32, max: u16) -> u16
+    requires { ⌜ max ≤ 32767 ⌝ }
     ensures { λ r. ⌜ r ≡ shifted 262144 max sum ⌝ }
 {
-    at_most(saturating_sub32(sum / 8192, 262144), max)
+    at_most(at_most_32767(saturating_sub32(sum / 8192, 262144)), max)
 }
 
 fn outer16(ky: u16, kc: u16, base: u32, max: u16, y: u16, c: u16) -> u16
-    requires { ⌜ (ky + kc ≤ 32767) × (base ≤ 2147487744) ⌝ }
+    requires { ⌜ (ky + kc ≤ 32767) × (base ≤ 2147487744) × (max ≤ 32767) ⌝ }
     ensures { λ r. ⌜ r ≡ outerOf 262144 max ky kc base y c ⌝ }
 {
     qrshr16(
@@ -115,7 +125,7 @@ fn outer16(ky: u16, kc: u16, base: u32, max: u16, y: u16, c: u16) -> u16
 }
 
 fn inner16(ky: u16, kp: u16, kq: u16, base: u32, max: u16, y: u16, p: u16, q: u16) -> u16
-    requires { ⌜ (ky ≤ 16383) × (base ≤ 2214594560) × ((kp + kq) * 65535 ≤ base) ⌝ }
+    requires { ⌜ (ky ≤ 16383) × (base ≤ 2214594560) × ((kp + kq) * 65535 ≤ base) × (max ≤ 32767) ⌝ }
     ensures { λ r. ⌜ r ≡ innerOf 262144 max ky kp kq base y p q ⌝ }
 {
     let taken = (kp as u32) * (p as u32) + (kq as u32) * (q as u32);
@@ -164,16 +174,26 @@ pub fn tail8(a: u8, c: u8) -> u8
     ((3 * (a as u16) + (c as u16) + 2) / 4) as u8
 }
 
-pub fn left16(a: u16, b: u16, c: u16, e: u16) -> u16
-    ensures { λ r. ⌜ r ≡ rounded (9 * a + 3 * b + 3 * c + e) ⌝ }
+// The near and the far sample of a column, in quarters.
+pub fn column16(near: u16, far: u16) -> u32
+    ensures { λ r. ⌜ r ≡ 3 * near + far ⌝ }
 {
-    ((9 * (a as u32) + 3 * (b as u32) + 3 * (c as u32) + (e as u32) + 8) / 16) as u16
+    3 * (near as u32) + (far as u32)
 }
 
-pub fn right16(a: u16, b: u16, c: u16, e: u16) -> u16
-    ensures { λ r. ⌜ r ≡ rounded (3 * a + 9 * b + c + 3 * e) ⌝ }
+// Chroma at the left and at the right pixel of a pair, from its two columns in quarters.
+pub fn left16(a: u32, b: u32, half: u32) -> u16
+    requires { ⌜ (a ≤ 262140) × (b ≤ 262140) × (half ≡ 8) ⌝ }
+    ensures { λ r. ⌜ r ≡ rounded (3 * a + b) ⌝ }
 {
-    ((3 * (a as u32) + 9 * (b as u32) + (c as u32) + 3 * (e as u32) + 8) / 16) as u16
+    ((3 * a + b + half) / 16 % 65536) as u16
+}
+
+pub fn right16(a: u32, b: u32, half: u32) -> u16
+    requires { ⌜ (a ≤ 262140) × (b ≤ 262140) × (half ≡ 8) ⌝ }
+    ensures { λ r. ⌜ r ≡ rounded (a + 3 * b) ⌝ }
+{
+    ((a + 3 * b + half) / 16 % 65536) as u16
 }
 
 pub fn tail16(a: u16, c: u16) -> u16
