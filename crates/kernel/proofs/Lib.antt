@@ -5,3 +5,4 @@ pub mod Frames
 pub mod Ordered
 pub mod Widths
 pub mod Accepted
+pub mod Loops

@@ -1,20 +1,20 @@
--- `convert8::convert_rows` meets its contract.
+-- `convert8::convert_rows` meets its contract. The loop is that of `RowsDone`.
 -- Assumes nothing.
 use borrow.Author.Needs.{needs}
-use mathlib.Core.Path.{_≡_, refl, ap, _∙_}
+use mathlib.Core.Path.{_≡_, refl, _∙_}
 use Prim.Native.Nat.{_+_, _-_, _*_, _≤_, _<_}
 use native.Mathlib.Omega.{arith}
 use lib.ListN.{length}
 use Rattle.yuv_support.specs.Blend.{frameOf}
-use Rattle.yuv_support.specs.Picture.{channelsOf, elementOf, painted, band}
-use Rattle.yuv_support.proofs.Rows.{painted-none, painted-length, row-fits, row-length, row-back}
+use Rattle.yuv_support.specs.Picture.{channelsOf, elementOf, band}
+use Rattle.yuv_support.proofs.Rows.{row-fits, row-length}
+use Rattle.kernel.proofs.Loops.{RowsDone, rows-begin, rows-next, rows-end}
 use Rattle.convert8.proofs.convert_rows.Statement.{statement}
 use Rattle.convert8.proofs.convert_rows.Tie as tie
 
 abbrev Inv-loop : tie.InvT-loop
 Inv-loop rgb₀ y u v s image rgb-stride k first count n stride end r₀ rgb r =
-    (first ≤ r) × (r ≤ end) × (length rgb ≡ length rgb₀)
-    × (rgb ≡ painted (elementOf s (frameOf image y u v)) stride n first (r - first) rgb₀)
+    RowsDone (elementOf s (frameOf image y u v)) stride n first end rgb₀ rgb r
 
 abbrev μ-loop : tie.MeasureT-loop
 μ-loop rgb₀ y u v s image rgb-stride k first count n stride end r₀ rgb r = end - r
@@ -29,10 +29,7 @@ add-end : tie.Need-add-end Inv-loop μ-loop
 add-end c = omega (arith, c .before .before .before .before .before .pre .1 .0, c .before .before .before .before .before .pre .0 .1 .height-most)
 
 loop-holds : tie.Need-loop-holds Inv-loop μ-loop
-loop-holds c =
-    let a = c .before .before .before .before .before .args in
-    let e : a .first - a .first ≡ 0 = omega arith in
-    (omega arith, omega arith, refl, rw e (painted-none (elementOf (a .s) (frameOf (a .image) (a .y .now) (a .u .now) (a .v .now))) (a .rgb-stride) (c .row-length .result) (a .first) (a .rgb .now)))
+loop-holds c = rows-begin (elementOf (c .before .before .before .before .before .args .s) (frameOf (c .before .before .before .before .before .args .image) (c .before .before .before .before .before .args .y .now) (c .before .before .before .before .before .args .u .now) (c .before .before .before .before .before .args .v .now))) (c .before .before .before .before .before .args .rgb-stride) (c .row-length .result) (c .before .before .before .before .before .args .first) (c .before .before .before .before .before .args .first + c .before .before .before .before .before .args .count) (c .before .before .before .before .before .args .rgb .now) (omega arith)
 
 cast-at : tie.Need-cast-at Inv-loop μ-loop
 cast-at c = search needs
@@ -59,16 +56,15 @@ part-convert-row-start : tie.Need-part-convert-row-start Inv-loop μ-loop
 part-convert-row-start c = omega arith
 
 part-convert-row-end : tie.Need-part-convert-row-end Inv-loop μ-loop
-part-convert-row-end c = omega (arith, fits c, c .before .loop .inv .2)
+part-convert-row-end c = omega (arith, fits c, c .before .loop .inv .same)
 
 convert-row-requires : tie.Need-convert-row-requires Inv-loop μ-loop
 convert-row-requires c κs =
     let a = c .before .before .before .before .before .before .before .before .args in
     let l = c .before .before .loop in
     let n = c .before .before .before .row-length in
-    let f = fits (c .before) in
     let h : l .r < a .image .height = omega (arith, c .before .before .before .before .before .before .before .before .pre .1 .0, c .before .loop-test .taken) in
-    (c .before .before .before .before .before .before .before .before .pre .0, (h, row-length (a .rgb-stride) (n .result) (l .r) (l .rgb) (rw (l .inv .2) f) ∙ n .ensures))
+    (c .before .before .before .before .before .before .before .before .pre .0, (h, row-length (a .rgb-stride) (n .result) (l .r) (l .rgb) (rw (l .inv .same) (fits (c .before))) ∙ n .ensures))
 
 add-r : tie.Need-add-r Inv-loop μ-loop
 add-r c = omega arith
@@ -79,25 +75,19 @@ loop-less c = omega arith
 loop-again : tie.Need-loop-again Inv-loop μ-loop
 loop-again c =
     let a = c .before .before .before .before .before .before .before .before .before .before .before .args in
-    let l = c .before .before .before .before .before .loop in
     let n = c .before .before .before .before .before .before .row-length in
-    let f = elementOf (a .s) (frameOf (a .image) (a .y .now) (a .u .now) (a .v .now)) in
-    let w : n .result ≤ a .rgb-stride = rw (n .ensures) (c .before .before .before .before .before .before .before .before .before .before .before .pre .1 .1) in
-    let t : l .r + 1 - a .first ≡ l .r - a .first + 1 = omega arith in
-    let e =
-    row-back f (a .rgb-stride) (n .result) (a .first) (l .r - a .first) (l .r)
-    (a .rgb .now) (l .rgb) (c .before .before .convert-row .last .0) w (fits (c .before .before .before .before)) (omega arith) (l .inv .3) (c .before .before .convert-row .ensures) in
-    (omega arith, omega arith, ap length e ∙ painted-length f (a .rgb-stride) (n .result) (a .first) (l .r - a .first + 1) (a .rgb .now), rw t e)
+    rows-next (elementOf (c .before .before .before .before .before .before .before .before .before .before .before .args .s) (frameOf (c .before .before .before .before .before .before .before .before .before .before .before .args .image) (c .before .before .before .before .before .before .before .before .before .before .before .args .y .now) (c .before .before .before .before .before .before .before .before .before .before .before .args .u .now) (c .before .before .before .before .before .before .before .before .before .before .before .args .v .now))) (a .rgb-stride) (n .result) (a .first) (a .first + a .count) (a .rgb .now)
+    (rw (n .ensures) (c .before .before .before .before .before .before .before .before .before .before .before .pre .1 .1)) (fits (c .before .before .before .before)) (c .before .before .before .before .before .loop .inv) (c .before .before .before .before .loop-test .taken) (c .before .before .convert-row .ensures)
 
 same-length : tie.Need-same-length Inv-loop μ-loop
-same-length c = c .before .loop .inv .2
+same-length c = c .before .loop .inv .same
 
 returns : tie.Need-returns Inv-loop μ-loop
 unfolding band
 returns c =
     let a = c .before .before .before .before .before .before .before .args in
-    let e : c .before .loop .r - a .first ≡ a .count = omega arith in
-    c .before .loop .inv .3 ∙ rw (e, c .before .before .row-length .ensures)
+    rows-end (elementOf (c .before .before .before .before .before .before .before .args .s) (frameOf (c .before .before .before .before .before .before .before .args .image) (c .before .before .before .before .before .before .before .args .y .now) (c .before .before .before .before .before .before .before .args .u .now) (c .before .before .before .before .before .before .before .args .v .now))) (a .rgb-stride) (c .before .before .row-length .result) (a .first) (a .first + a .count) (a .rgb .now) (a .count) refl (c .before .loop .inv) (c .loop-test .left)
+    ∙ rw (c .before .before .row-length .ensures)
 
 pub convert-rows-spec : {M : Type 1} → statement M
 convert-rows-spec =
