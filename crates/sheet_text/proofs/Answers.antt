@@ -1,0 +1,164 @@
+-- The text of a sheet, question by question: what each "no" prints, and where all are answered the table of the planes that were read.
+-- Assumes nothing.
+use mathlib.Core.Path.{_≡_, refl, sym, ap, _∙_, subst⁻¹}
+use mathlib.Core.Bool.{Bool, true, false, cond, _&&_, and-eq-true-iff}
+use mathlib.Core.List.{List, [], _∷_}
+use mathlib.Core.Logic.{_⊎_, inl, inr}
+use Prim.Native.Nat.{ℕ, _+_, _≤_, _<_}
+use native.Mathlib.Omega.{arith}
+use borrow.Author.Tests.{leb-true, le-leb, lt-leb, eqb-true}
+use lib.Dec.{T, leb, eqb, lit<}
+use lib.ListN.{length, take, getD, List·getD-eq-default}
+use lib.Seq.{sets, getD-take}
+use Rattle.yuv_support.specs.Settings.{among, depths}
+use Rattle.yuv_support.specs.Questions.{ask, verdict, decoded, codesKnown}
+use Rattle.yuv_support.proofs.Overlay.{below-or-not}
+use Rattle.yuv_support.proofs.Tests.{passed, both}
+use Rattle.sheet_text.specs.declared.Values.{Values}
+use Rattle.sheet_text.specs.Text.{Wrote}
+use Rattle.sheet_text.specs.Numbers.{byteAt, numberAt, allBelow, begin, areLines, numbersFrom}
+use Rattle.sheet_text.specs.Sheet.{
+  names,
+  hasName,
+  hasNames,
+  hasValues,
+  valuesOf,
+  codesOf,
+  lumaCount,
+  chromaCount,
+  lumaBegin,
+  uBegin,
+  vBegin,
+  widest,
+  isSmall,
+  hasPlanes,
+  isWhole,
+  restFormed,
+  sheetFrame,
+  sheetQuestions,
+  refusal,
+  table,
+  sheetOf,
+}
+use Rattle.sheet_text.specs.Shown.{Fit, Samples, planesFrame}
+use Rattle.sheet_text.specs.Answer.{PlanesRead, valuesIn, restText, valuesText}
+use Rattle.sheet_text.proofs.Sizes.{luma-count-most, chroma-count-most}
+use Rattle.sheet_text.proofs.ManyNumbers.{all-below}
+use Rattle.sheet_text.proofs.PlaneLines.{numbers-at, lines-most}
+
+-- ---- question 15 of the rest
+
+pub not-small : (s : List ℕ) (v : Values) → isSmall v ≡ false → restText s v ≡ refusal 15
+unfolding restFormed
+not-small s v e = rw e
+
+pub not-whole : (s : List ℕ) (v : Values) → isSmall v ≡ true → (hasPlanes s v && isWhole s v) ≡ false → restText s v ≡ refusal 15
+unfolding restFormed
+not-whole s v e f = rw (e, f)
+
+pub rest-table : (s : List ℕ) (v : Values) (y u w : List ℕ) → isSmall v ≡ true → (hasPlanes s v && isWhole s v) ≡ true → PlanesRead s v y u w
+    → restText s v ≡ table (decoded (codesOf v)) (planesFrame v y u w)
+unfolding restFormed sheetFrame
+rest-table s v y u w e f r = rw (e, f, r .luma, r .cb, r .cr)
+
+pub small-sides : (v : Values) → isSmall v ≡ true → (1 ≤ v .width) × (v .width ≤ 64) × (1 ≤ v .height) × (v .height ≤ 64) × (v .matrix ≤ 5)
+small-sides v e =
+    let a = and-eq-true-iff (leb 1 (v .width) && leb (v .width) 64 && leb 1 (v .height) && leb (v .height) 64) (leb (v .matrix) 5) .0 e in
+    let b = and-eq-true-iff (leb 1 (v .width) && leb (v .width) 64 && leb 1 (v .height)) (leb (v .height) 64) .0 (a .0) in
+    let c = and-eq-true-iff (leb 1 (v .width) && leb (v .width) 64) (leb 1 (v .height)) .0 (b .0) in
+    let d = and-eq-true-iff (leb 1 (v .width)) (leb (v .width) 64) .0 (c .0) in
+    (leb-true _ _ (d .0), leb-true _ _ (d .1), leb-true _ _ (c .1), leb-true _ _ (b .1), leb-true _ _ (a .1))
+
+pub small-fits : (v : Values) → isSmall v ≡ true → v .sampling ≤ 1 → T (codesKnown (among (v .depth) depths) (codesOf v) .holds) → Fit depths v
+small-fits v e hs k =
+    let t = small-sides v e in
+    let p = passed (codesKnown (among (v .depth) depths) (codesOf v) .holds) k in
+    let a = and-eq-true-iff (leb (v .order) 3) _ .0 p in
+    let b = and-eq-true-iff (leb (v .range) 1) _ .0 (a .1) in
+    let c = and-eq-true-iff (leb (v .matrix) 6) _ .0 (b .1) in
+    record {
+      sampling = hs;
+      order = leb-true _ _ (a .0);
+      range = leb-true _ _ (b .0);
+      matrix = t .4;
+      depth = subst⁻¹ T (c .1) tt;
+      width-least = t .0;
+      width = t .1;
+      height-least = t .2;
+      height = t .3;
+    }
+
+pub planes-samples : (s : List ℕ) (v : Values) (y u w : List ℕ) → v .width ≤ 64 → v .height ≤ 64 → (hasPlanes s v && isWhole s v) ≡ true
+    → PlanesRead s v y u w → length y ≡ 4096 → length u ≡ 4096 → length w ≡ 4096 → Samples (widest v) v y u w
+planes-samples s v y u w hw hh e r ly lu lw =
+    let a = and-eq-true-iff (hasPlanes s v) (isWhole s v) .0 e in
+    let b = and-eq-true-iff (areLines s (lumaBegin s) (v .width) (widest v) (lumaCount v) && _) _ .0 (a .0) in
+    let c = and-eq-true-iff (areLines s (lumaBegin s) (v .width) (widest v) (lumaCount v)) _ .0 (b .0) in
+    let n = luma-count-most v hw hh in
+    let m = chroma-count-most v hw hh in
+    record {
+      luma = lines-most s (lumaBegin s) (v .width) (widest v) (lumaCount v) y (omega arith) (c .0) (r .luma);
+      cb = lines-most s (uBegin s v) _ (widest v) (chromaCount v) u (omega arith) (c .1) (r .cb);
+      cr = lines-most s (vBegin s v) _ (widest v) (chromaCount v) w (omega arith) (b .1) (r .cr);
+    }
+
+-- ---- questions 1 and 2
+
+pub sampling-unknown : (s : List ℕ) (v : Values) → 1 < v .sampling → valuesText s v ≡ refusal 1
+sampling-unknown s v h = rw (lt-leb (v .sampling) 1 h)
+
+pub code-unknown : (s : List ℕ) (v : Values) → v .sampling ≤ 1 → codesKnown (among (v .depth) depths) (codesOf v) .holds ≡ false → valuesText s v ≡ refusal 2
+code-unknown s v h e = rw (le-leb (v .sampling) 1 h, e)
+
+pub values-known : (s : List ℕ) (v : Values) → v .sampling ≤ 1 → codesKnown (among (v .depth) depths) (codesOf v) .holds ≡ true → valuesText s v ≡ restText s v
+values-known s v h e = rw (le-leb (v .sampling) 1 h, e)
+
+-- ---- the first two lines
+
+pub names-missed : (s : List ℕ) → hasNames s ≡ false → sheetOf s ≡ refusal 15
+unfolding sheetOf sheetQuestions verdict
+names-missed s e = rw e
+
+pub values-missed : (s : List ℕ) → hasNames s ≡ true → areLines s 47 7 99999 7 ≡ false → sheetOf s ≡ refusal 15
+unfolding sheetOf sheetQuestions verdict hasValues
+values-missed s e f = rw (e, f)
+
+-- three questions, and the text that their verdict prints
+asked : (a b c : Bool) (t : List ℕ)
+    → cond (eqb (verdict (ask 1 a ∷ ask 2 b ∷ ask 15 c ∷ []) .number) 0) t (refusal (verdict (ask 1 a ∷ ask 2 b ∷ ask 15 c ∷ []) .number))
+    ≡ cond a (cond b (cond c t (refusal 15)) (refusal 2)) (refusal 1)
+unfolding verdict
+asked true true true t = refl
+asked true true false t = refl
+asked true false c t = refl
+asked false b c t = refl
+
+pub lines-formed : (s : List ℕ) → hasNames s ≡ true → areLines s 47 7 99999 7 ≡ true → sheetOf s ≡ valuesText s (valuesOf s)
+unfolding sheetOf sheetQuestions verdict hasValues
+lines-formed s e f =
+    rw (e, f)
+    (asked (leb (valuesOf s .sampling) 1) (codesKnown (among (valuesOf s .depth) depths) (codesOf (valuesOf s)) .holds) (restFormed s (valuesOf s))
+    (table (decoded (codesOf (valuesOf s))) (sheetFrame s (valuesOf s))))
+
+-- the line of names is 47 bytes long, its last byte being 10
+pub names-length : (s : List ℕ) → hasNames s ≡ true → 47 ≤ length s
+unfolding hasNames
+names-length s e = go (eqb-true (byteAt s 46) (byteAt names 46) (all-below (hasName s) 47 46 (lit< tt) e)) (below-or-not 46 (length s))
+  where
+    go : byteAt s 46 ≡ 10 → (46 < length s) ⊎ (length s ≤ 46) → 47 ≤ length s
+    go q (inl h) = omega arith
+    go q (inr h) = let z : byteAt s 46 ≡ 0 = List·getD-eq-default s 0 h in absurd (omega arith)
+
+-- the seven numbers are the values
+pub values-read : (s numbers : List ℕ) → take 7 numbers ≡ numbersFrom s 47 7 → valuesIn numbers ≡ valuesOf s
+unfolding valuesOf
+values-read s numbers e = rw (at 0 (lit< tt), at 1 (lit< tt), at 2 (lit< tt), at 3 (lit< tt), at 4 (lit< tt), at 5 (lit< tt), at 6 (lit< tt))
+  where
+    at : (i : ℕ) → i < 7 → getD numbers i 0 ≡ numberAt s (begin s 47 i)
+    at i h = sym (getD-take 7 numbers i 0 h) ∙ ap (λ (t : List ℕ). getD t i 0) e ∙ numbers-at s 47 7 i h
+
+-- ---- the whole output
+
+pub wrote-whole : {old new : List ℕ} {next : ℕ} (text : List ℕ) {written : List ℕ} → text ≡ written → Wrote old 0 written new next
+    → (next ≡ length text) × (new ≡ sets old 0 text)
+wrote-whole {old} {new} {next} text {written} e w = rw e ((let p = w .place in omega arith, w .bytes))
