@@ -9,6 +9,7 @@ use Rattle.yuv_support.specs.Component.{step, sumOf, quotientOf, componentOf}
 use Rattle.yuv_support.specs.Picture.{lettersOf, channelsOf}
 use Rattle.yuv_support.specs.Questions.{verdict, questionsOf, settingsQuestions}
 use Rattle.settings_used.specs.Used.{settingsUsedOf}
+use Rattle.sheet_text.proofs.Examples.{marked-sheet}
 use Rattle.marked_cases.specs.Marked.{Marked}
 
 pub marked : Marked
@@ -17,6 +18,7 @@ unfolding maxOf biasY biasC rangeY rangeC weightR weightB weightG weightsOf
     sixteenths chromaHeight step sumOf quotientOf componentOf lettersOf channelsOf verdict questionsOf settingsQuestions settingsUsedOf
     ofInt mul sub div le
 marked = record {
+  sheet = marked-sheet;
   sheet-pixels = (refl, refl);
   one-row = λ ch c e. (refl, refl);
   two-rows = λ ch. (refl, refl);

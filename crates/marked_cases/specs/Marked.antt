@@ -1,5 +1,4 @@
 -- Document 01, "Marked cases": one field a case, in document 01's order, by the definitions that the entries' promises cite.
--- Of the first case, the sheet, there are the two pixels, each from its samples.
 -- Definitions only.
 use Prim.Native.Nat.{ℕ, _*_}
 use mathlib.Core.Path.{_≡_}
@@ -20,6 +19,8 @@ use Rattle.yuv_support.specs.Coefficients.{coefficientsOf}
 use Rattle.yuv_support.specs.Blend.{Chroma, Cb, Cr, one, two, left, right, tail, sixteenths, rounded, chromaWidth, chromaHeight}
 use Rattle.yuv_support.specs.Component.{R, G, B, componentOf}
 use Rattle.yuv_support.specs.Questions.{Verdict, accepted, verdict, Request, extent, conversionQuestions}
+use Rattle.sheet_text.specs.Sheet.{sheetOf}
+use Rattle.sheet_text.proofs.Examples.{markedInput, markedOutput}
 use Rattle.settings_used.specs.Used.{ofNumber, refusal, settingsUsedOf}
 
 -- the settings of a depth, a range and a matrix; sampling and order have no part in a component
@@ -85,6 +86,8 @@ verdictOn c width height = verdict (conversionQuestions depths8 (request c width
 -- ---- the table
 
 pub record Marked : Type 0 where
+  -- "the sheet above": the whole output of the whole input, byte by byte
+  pub sheet : sheetOf markedInput ≡ markedOutput
   -- "the sheet above": 8 bits, full, BT.601, U 128, V 228; Y 100: 240 29 100; Y 50: 190 0 50
   pub sheet-pixels :
       (pixel (setting 8 Full Bt601) 100 128 228 ≡ 240 ∷ 29 ∷ 100 ∷ [])

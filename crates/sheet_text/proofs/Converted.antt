@@ -58,7 +58,7 @@ module _ (known : List ℕ) (v : Values) (fit : Fit known v) where
     unfolding answerTo questionsOf verdict
     small-accepted =
         let chroma = close-rows (chromaWidth (v .width)) (chromaHeight (samplingOf (v .sampling)) (v .height))
-          (chroma-height-least (samplingOf (v .sampling)) (v .height) (fit .height-least)) in
+        (chroma-height-least (samplingOf (v .sampling)) (v .height) (fit .height-least)) in
         let luma = close-rows (v .width) (v .height) (fit .height-least) in
         let r = rgb-room in
         let q1 = le-leb (v .sampling) 1 (fit .sampling) in
@@ -87,7 +87,7 @@ module _ (known : List ℕ) (v : Values) (fit : Fit known v) where
         let a : answerTo known (codesOf v) (imageOf v) y u w (strideOf v) old .number ≡ 0 = ap (λ r. r .number) small-accepted in
         let r = rgb-room in
         let p : new ≡ band (decoded (codesOf v)) (frameOf (imageOf v) y u w) (strideOf v) 0 (v .height) old =
-          e ∙ rw (eq-eqb _ 0 a) refl in
+        e ∙ rw (eq-eqb _ 0 a) refl in
         rw p
         (component-in (decoded (codesOf v)) (frameOf (imageOf v) y u w) (strideOf v) 0 (v .height) old (le-refl (strideOf v)) c row column
         (omega arith) (omega arith) hc
@@ -114,7 +114,7 @@ module _ (known : List ℕ) (v : Values) (fit : Fit known v) where
       let lm : length (take m u) ≡ chromaCount v = ap length (sym eu) ∙ length-take-le m U hm ∙ em in
       let lm′ : length (take m w) ≡ chromaCount v = ap length (sym ew) ∙ length-take-le m W hm′ ∙ em in
       let d : new ≡ destinationAfter known (codesOf v) (imageOf v) (take n y) (take m u) (take m w) (strideOf v) old =
-        e ∙ rw (ec, ei, es, ey, eu, ew) refl in
+      e ∙ rw (ec, ei, es, ey, eu, ew) refl in
       rw (← en, ← em) (small-shows (take n y) (take m u) (take m w) old ln lm lm′ lo new d)
 
 -- two lists of n elements whose first n are the same

@@ -23,9 +23,9 @@ module _ (from to₀ : List ℕ) (n : ℕ) where
         most = omega arith;
         kept = length-set to i (getD from i 0) ∙ c .kept;
         same =
-          let a : take (suc i) (set to i (getD from i 0)) ≡ take i to ++ (getD from i 0 ∷ []) =
+            let a : take (suc i) (set to i (getD from i 0)) ≡ take i to ++ (getD from i 0 ∷ []) =
             take-suc-set to i (getD from i 0) (omega (arith, c .kept)) in
-          rw (e, a, take-suc from i 0 (let l : i < length from = omega arith in l), c .same);
+            rw (e, a, take-suc from i 0 (let l : i < length from = omega arith in l), c .same);
       }
 
   pub copied-all : {to : List ℕ} {i : ℕ} → Copied to i → n ≤ i → take n to ≡ take n from

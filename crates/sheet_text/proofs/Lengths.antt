@@ -46,7 +46,7 @@ table-length : (s : Settings) (f : Frame) → f .width ≤ 64 → f .height ≤ 
 unfolding table
 table-length s f hw hh =
     let row : (r : ℕ) → length (rowText s f r (f .width)) ≤ 1920 =
-      λ r. let l = joined-length (pixelLine s f r) 30 (f .width) (λ c. pixel-text-length r c _ _ _) in omega arith in
+    λ r. let l = joined-length (pixelLine s f r) 30 (f .width) (λ c. pixel-text-length r c _ _ _) in omega arith in
     let rows = joined-length (λ r. rowText s f r (f .width)) 1920 (f .height) row in
     let l = length-append heading (rowsText s f (f .height)) in
     omega arith

@@ -113,9 +113,9 @@ module _ (s : List ℕ) (at width limit n : ℕ) (numbers₀ : List ℕ) where
         begins = rw (e₁, p) (f .2);
         within = let w = past-within s place (ending width i) (ending-positive width i) (f .0) in omega (arith, f .2);
         read =
-          let c : take (i + 1) (set numbers i value) ≡ take i numbers ++ (value ∷ []) =
+            let c : take (i + 1) (set numbers i value) ≡ take i numbers ++ (value ∷ []) =
             rw e₁ (take-suc-set numbers i value (omega (arith, r .kept))) in
-          c ∙ rw (r .read, ← v) (sym (joined-one (λ i. numberAt s (begin s at i) ∷ []) i));
+            c ∙ rw (r .read, ← v) (sym (joined-one (λ i. numberAt s (begin s at i) ∷ []) i));
       }
 
   -- the numbers are not well formed: the one at the place is missed, or above the limit

@@ -104,11 +104,11 @@ unfolding isItem
 lines-most s at width limit n xs long formed read = record {
   long = long;
   most =
-    λ i h.
-    let p = and-eq-true-iff (isNumber s (begin s at i) (ending width i)) (leb (numberAt s (begin s at i)) limit) .0
+      λ i h.
+      let p = and-eq-true-iff (isNumber s (begin s at i) (ending width i)) (leb (numberAt s (begin s at i)) limit) .0
       (all-below (isItem s at width limit) n i h formed) in
-    let e : getD xs i 0 ≡ numberAt s (begin s at i) = sym (getD-take n xs i 0 h) ∙ ap (λ (t : List ℕ). getD t i 0) read ∙ numbers-at s at n i h in
-    rw e (leb-true _ _ (p .1));
+      let e : getD xs i 0 ≡ numberAt s (begin s at i) = sym (getD-take n xs i 0 h) ∙ ap (λ (t : List ℕ). getD t i 0) read ∙ numbers-at s at n i h in
+      rw e (leb-true _ _ (p .1));
 }
 
 -- ---- the three planes of a sheet

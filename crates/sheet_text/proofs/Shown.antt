@@ -36,8 +36,7 @@ pub pixel-text-length : (row column r g b : ℕ) → length (pixelText row colum
 unfolding pixelText
 pixel-text-length row column r g b =
     simp length-append
-    (omega
-    (
+    (omega (
       arith,
       number-text-length row 32,
       number-text-length column 32,
@@ -101,9 +100,9 @@ places-small known v fit = record {
   letters = three-or-four-channels (orderOf (v .order)) .0;
   red = red-most (orderOf (v .order));
   room =
-    λ row h.
-    let r = row-fits (strideOf v) (strideOf v) (v .height) row 16384 (rgb-room known v fit) h in
-    rw (mul-comm (channelsOf (orderOf (v .order))) (v .width)) r;
+      λ row h.
+      let r = row-fits (strideOf v) (strideOf v) (v .height) row 16384 (rgb-room known v fit) h in
+      rw (mul-comm (channelsOf (orderOf (v .order))) (v .width)) r;
 }
 
 module _ (v : Values) (y u w rgb : List ℕ) (shows : Shows (decoded (codesOf v)) (frameOf (imageOf v) y u w) (strideOf v) rgb) where

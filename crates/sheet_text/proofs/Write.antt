@@ -34,7 +34,7 @@ pub wrote-one : (old : List ℕ) (at : ℕ) (text new : List ℕ) (i : ℕ) → 
 wrote-one old at text new i w h =
     let n : i + 1 ≡ suc i = omega arith in
     let last : Wrote new (at + i) (getD text i 0 ∷ []) (set new (at + i) (getD text i 0)) (at + (i + 1)) =
-      record { place = omega arith; bytes = refl } in
+    record { place = omega arith; bytes = refl } in
     let e : take (i + 1) text ≡ take i text ++ (getD text i 0 ∷ []) = rw n (take-suc text i 0 h) in
     rw e (wrote-then w last)
 

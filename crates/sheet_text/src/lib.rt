@@ -14,7 +14,20 @@ ghost use Rattle.sheet_text.specs.Text.{leadingDigit, numberText, Wrote}
 ghost use Rattle.sheet_text.specs.Numbers.{byteAt, isDigit, digitsAt, numberAt, ending, areLines, numbersFrom};
 ghost use Rattle.sheet_text.specs.Read.{numberRead, linesRead};
 ghost use Rattle.sheet_text.specs.Sheet.{
-    heading, hasNames, codesOf, imageOf, lumaCount, chromaCount, widest, isSmall, hasPlanes, isWhole, refusal, pixelText, table, sheetOf
+  heading,
+  hasNames,
+  codesOf,
+  imageOf,
+  lumaCount,
+  chromaCount,
+  widest,
+  isSmall,
+  hasPlanes,
+  isWhole,
+  refusal,
+  pixelText,
+  table,
+  sheetOf,
 };
 ghost use Rattle.sheet_text.specs.Answer.{Planes, PlanesRead, AfterValues, valuesIn, restText, valuesText};
 ghost use Rattle.sheet_text.specs.Shown.{shownPixel, shownRow, shownRows, Small, Shows, Fit, Samples, strideOf, placesOf, planesFrame};
@@ -222,7 +235,15 @@ struct Places {
     red: usize,
 }
 
-fn put_line(out: &mut [u8; 131072], at: usize, row: u32, column: u32, r: u16, g: u16, b: u16) -> usize
+fn put_line(
+    out: &mut [u8; 131072],
+    at: usize,
+    row: u32,
+    column: u32,
+    r: u16,
+    g: u16,
+    b: u16,
+) -> usize
     requires { ⌜ at + 30 ≤ 131072 ⌝ }
     ensures { λ e. ⌜ Wrote (now (out .entry)) at (pixelText row column r g b) (now (out .exit)) e ⌝ }
 {
@@ -234,7 +255,14 @@ fn put_line(out: &mut [u8; 131072], at: usize, row: u32, column: u32, r: u16, g:
 }
 
 // The line of a pixel of a picture.
-fn put_pixel(out: &mut [u8; 131072], at: usize, rgb: &[u16; 16384], p: Places, row: u32, column: u32) -> usize
+fn put_pixel(
+    out: &mut [u8; 131072],
+    at: usize,
+    rgb: &[u16; 16384],
+    p: Places,
+    row: u32,
+    column: u32,
+) -> usize
     requires { ⌜ (at + 30 ≤ 131072) × (row < p .height) × (column < p .width) × Small p ⌝ }
     ensures { λ e. ⌜ Wrote (now (out .entry)) at (shownPixel (now (rgb .entry)) p row column) (now (out .exit)) e ⌝ }
 {
@@ -445,7 +473,15 @@ fn picture8(v: Values, y: &[u32], u: &[u32], w: &[u32], rgb: &mut [u16])
     narrow8(u, m, &mut cb);
     narrow8(w, m, &mut cr);
     let stride = images::row_length(v.width, yuv_support::order_of(v.order));
-    yuv_to_rgba_bilinear::yuv_to_rgbx_bilinear(codes_of(v), image_of(v), &luma[..n], &cb[..m], &cr[..m], &mut bytes, stride);
+    yuv_to_rgba_bilinear::yuv_to_rgbx_bilinear(
+        codes_of(v),
+        image_of(v),
+        &luma[..n],
+        &cb[..m],
+        &cr[..m],
+        &mut bytes,
+        stride,
+    );
     widen8(&bytes, 16384, rgb);
 }
 
@@ -463,7 +499,15 @@ fn picture16(v: Values, y: &[u32], u: &[u32], w: &[u32], rgb: &mut [u16])
     narrow16(u, m, &mut cb);
     narrow16(w, m, &mut cr);
     let stride = images::row_length(v.width, yuv_support::order_of(v.order));
-    yuv_p16_to_rgba16_bilinear::yuv16_to_rgbx_bilinear(codes_of(v), image_of(v), &luma[..n], &cb[..m], &cr[..m], rgb, stride);
+    yuv_p16_to_rgba16_bilinear::yuv16_to_rgbx_bilinear(
+        codes_of(v),
+        image_of(v),
+        &luma[..n],
+        &cb[..m],
+        &cr[..m],
+        rgb,
+        stride,
+    );
 }
 
 // The picture at any depth.

@@ -68,9 +68,11 @@ slice-aggregate-put-sheet-3 c = search needs
 put-sheet-requires : tie.Need-put-sheet-requires
 put-sheet-requires c κs =
     let e = (sym (c .before .before .before .before .before .before .before .before .before .before .before .before .before .is-small .ensures) ∙ not-false _ (c .before .before .before .before .before .before .before .before .before .before .before .before .if1 .left)) in
-    let t = small-sides (c .before .before .before .before .before .before .before .before .before .before .before .before .before .before .before .args .v) e in
-    (small-fits (c .before .before .before .before .before .before .before .before .before .before .before .before .before .before .before .args .v) e (c .before .before .before .before .before .before .before .before .before .before .before .before .before .before .before .pre .1) (c .before .before .before .before .before .before .before .before .before .before .before .before .before .before .before .pre .2), planes-samples (c .before .before .before .before .before .before .before .before .before .before .before .before .before .before .before .args .s .now) (c .before .before .before .before .before .before .before .before .before .before .before .before .before .before .before .args .v) (c .before .before .before .before .before .before .before .before .read-planes .last .1 .1 .1 .0) (c .before .before .before .before .before .before .before .before .read-planes .last .1 .1 .1 .1 .0) (c .before .before .before .before .before .before .before .before .read-planes .last .1 .1 .1 .1 .1 .0) (t .1) (t .3) (sym (c .before .before .before .before .before .before .before .before .read-planes .ensures .0) ∙ c .before .before .before .before .if2 .taken) (c .before .before .before .before .before .before .before .before .read-planes .ensures .1 (c .before .before .before .before .if2 .taken))
-      (c .before .before .before .before .before .before .before .before .read-planes .kept .1 .1 .1 .0) (c .before .before .before .before .before .before .before .before .read-planes .kept .1 .1 .1 .1 .0) (c .before .before .before .before .before .before .before .before .read-planes .kept .1 .1 .1 .1 .1 .0))
+    let t = small-sides (c .before .before .before .before .before .before .before .before .before .before .before .before .before .before .before .args .v) e in (
+      small-fits (c .before .before .before .before .before .before .before .before .before .before .before .before .before .before .before .args .v) e (c .before .before .before .before .before .before .before .before .before .before .before .before .before .before .before .pre .1) (c .before .before .before .before .before .before .before .before .before .before .before .before .before .before .before .pre .2),
+      planes-samples (c .before .before .before .before .before .before .before .before .before .before .before .before .before .before .before .args .s .now) (c .before .before .before .before .before .before .before .before .before .before .before .before .before .before .before .args .v) (c .before .before .before .before .before .before .before .before .read-planes .last .1 .1 .1 .0) (c .before .before .before .before .before .before .before .before .read-planes .last .1 .1 .1 .1 .0) (c .before .before .before .before .before .before .before .before .read-planes .last .1 .1 .1 .1 .1 .0) (t .1) (t .3) (sym (c .before .before .before .before .before .before .before .before .read-planes .ensures .0) ∙ c .before .before .before .before .if2 .taken) (c .before .before .before .before .before .before .before .before .read-planes .ensures .1 (c .before .before .before .before .if2 .taken))
+          (c .before .before .before .before .before .before .before .before .read-planes .kept .1 .1 .1 .0) (c .before .before .before .before .before .before .before .before .read-planes .kept .1 .1 .1 .1 .0) (c .before .before .before .before .before .before .before .before .read-planes .kept .1 .1 .1 .1 .1 .0),
+    )
 
 -- src/lib.rt:535:9
 returns-2 : tie.Need-returns-2

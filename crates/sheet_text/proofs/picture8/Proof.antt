@@ -118,7 +118,7 @@ same-length c = search needs
 returns : tie.Need-returns
 returns c =
     let rgb = whole-same 16384 (c .before .before .widen8 .last .1 .1 .0) (c .before .before .before .before .before .before .yuv-to-rgbx-bilinear .last .1 .1 .1 .1 .1 .0)
-      (c .before .before .widen8 .kept .1 .1 .0 ∙ c .before .before .before .before .before .before .before .before .before .before .before .before .before .before .before .before .before .before .before .before .before .before .before .before .before .before .before .before .before .before .pre .2) (c .before .before .before .before .before .before .yuv-to-rgbx-bilinear .kept .1 .1 .1 .1 .1 .0) (c .before .before .widen8 .ensures) in
+    (c .before .before .widen8 .kept .1 .1 .0 ∙ c .before .before .before .before .before .before .before .before .before .before .before .before .before .before .before .before .before .before .before .before .before .before .before .before .before .before .before .before .before .before .pre .2) (c .before .before .before .before .before .before .yuv-to-rgbx-bilinear .kept .1 .1 .1 .1 .1 .0) (c .before .before .widen8 .ensures) in
     rw rgb
     (planes-shown depths8 (c .before .before .before .before .before .before .before .before .before .before .before .before .before .before .before .before .before .before .before .before .before .before .before .before .before .before .before .before .before .before .args .v) (c .before .before .before .before .before .before .before .before .before .before .before .before .before .before .before .before .before .before .before .before .before .before .before .before .before .before .before .before .before .before .pre .0) (c .before .before .before .before .before .before .before .before .before .before .before .before .before .before .before .before .before .before .before .before .before .before .before .before .before .before .before .before .before .before .args .y .now) (c .before .before .before .before .before .before .before .before .before .before .before .before .before .before .before .before .before .before .before .before .before .before .before .before .before .before .before .before .before .before .args .u .now) (c .before .before .before .before .before .before .before .before .before .before .before .before .before .before .before .before .before .before .before .before .before .before .before .before .before .before .before .before .before .before .args .w .now)
     (c .before .before .before .before .before .before .before .before .before .before .before .before .before .before .before .before .before .before .before .before .before .before .narrow8 .last .1 .1 .0) (c .before .before .before .before .before .before .before .before .before .before .before .before .before .before .before .before .before .before .before .narrow82 .last .1 .1 .0) (c .before .before .before .before .before .before .before .before .before .before .before .before .before .before .before .before .narrow83 .last .1 .1 .0) (replicate 16384 0)

@@ -22,13 +22,12 @@ loop-holds c = (omega arith, joined-nothing (shownPixel (c .args .rgb .now) (c .
 
 -- src/lib.rt:245:9
 put-pixel-requires : tie.Need-put-pixel-requires Inv-loop μ-loop
-put-pixel-requires c κs =
-    (
-      omega (arith, row-length (c .before .before .before .args .rgb .now) (c .before .before .before .args .p) (c .before .before .before .args .row) (c .before .before .loop .column), c .before .before .loop .inv .1 .place, c .before .loop-test .taken, c .before .before .before .pre .0, c .before .before .before .pre .2 .width),
-      c .before .before .before .pre .1,
-      c .before .loop-test .taken,
-      c .before .before .before .pre .2,
-    )
+put-pixel-requires c κs = (
+  omega (arith, row-length (c .before .before .before .args .rgb .now) (c .before .before .before .args .p) (c .before .before .before .args .row) (c .before .before .loop .column), c .before .before .loop .inv .1 .place, c .before .loop-test .taken, c .before .before .before .pre .0, c .before .before .before .pre .2 .width),
+  c .before .before .before .pre .1,
+  c .before .loop-test .taken,
+  c .before .before .before .pre .2,
+)
 
 -- src/lib.rt:246:9
 add-column : tie.Need-add-column Inv-loop μ-loop

@@ -22,12 +22,11 @@ loop-holds c = (omega arith, joined-nothing (λ row. shownRow (c .args .rgb .now
 
 -- src/lib.rt:260:9
 put-row-requires : tie.Need-put-row-requires Inv-loop μ-loop
-put-row-requires c κs =
-    (
-      omega (arith, rows-length (c .before .before .before .args .rgb .now) (c .before .before .before .args .p) (c .before .before .loop .row) (c .before .before .before .pre .1), c .before .before .loop .inv .1 .place, c .before .loop-test .taken, c .before .before .before .pre .0, c .before .before .before .pre .1 .height),
-      c .before .loop-test .taken,
-      c .before .before .before .pre .1,
-    )
+put-row-requires c κs = (
+  omega (arith, rows-length (c .before .before .before .args .rgb .now) (c .before .before .before .args .p) (c .before .before .loop .row) (c .before .before .before .pre .1), c .before .before .loop .inv .1 .place, c .before .loop-test .taken, c .before .before .before .pre .0, c .before .before .before .pre .1 .height),
+  c .before .loop-test .taken,
+  c .before .before .before .pre .1,
+)
 
 -- src/lib.rt:261:9
 add-row : tie.Need-add-row Inv-loop μ-loop

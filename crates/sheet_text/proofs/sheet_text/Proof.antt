@@ -62,14 +62,14 @@ values-of-requires c κs = search needs
 answer-values-requires : tie.Need-answer-values-requires
 answer-values-requires c κs =
     let l = lined (c .before .before .before .before .before .before .before .before .before .before .before .before .args .input .now) 47 7 99999 7 (c .before .before .before .before .before .before .before .read-lines .last .1 .1 .1 .1 .1 .0) (c .before .before .before .before .line .given .0 .0) (c .before .before .before .before .before .before .before .read-lines .result)
-      (names-length (c .before .before .before .before .before .before .before .before .before .before .before .before .args .input .now) (sym (c .before .before .before .before .before .before .before .before .before .before .has-names .ensures) ∙ not-false _ (c .before .before .before .before .before .before .before .before .before .if1 .left))) (c .before .before .before .before .before .before .before .read-lines .ensures .0) (c .before .before .before .before .before .before .before .read-lines .ensures .1) (c .before .before .before .before .line .given .1) in
+    (names-length (c .before .before .before .before .before .before .before .before .before .before .before .before .args .input .now) (sym (c .before .before .before .before .before .before .before .before .before .before .has-names .ensures) ∙ not-false _ (c .before .before .before .before .before .before .before .before .before .if1 .left))) (c .before .before .before .before .before .before .before .read-lines .ensures .0) (c .before .before .before .before .before .before .before .read-lines .ensures .1) (c .before .before .before .before .line .given .1) in
     record { place = l .end; within = l .within }
 
 -- src/lib.rt:571:1
 returns-3 : tie.Need-returns-3
 returns-3 c =
     let l = lined (c .before .before .before .before .before .before .before .before .before .before .before .before .before .args .input .now) 47 7 99999 7 (c .before .before .before .before .before .before .before .before .read-lines .last .1 .1 .1 .1 .1 .0) (c .before .before .before .before .before .line .given .0 .0) (c .before .before .before .before .before .before .before .before .read-lines .result)
-      (names-length (c .before .before .before .before .before .before .before .before .before .before .before .before .before .args .input .now) (sym (c .before .before .before .before .before .before .before .before .before .before .before .has-names .ensures) ∙ not-false _ (c .before .before .before .before .before .before .before .before .before .before .if1 .left))) (c .before .before .before .before .before .before .before .before .read-lines .ensures .0) (c .before .before .before .before .before .before .before .before .read-lines .ensures .1) (c .before .before .before .before .before .line .given .1) in
+    (names-length (c .before .before .before .before .before .before .before .before .before .before .before .before .before .args .input .now) (sym (c .before .before .before .before .before .before .before .before .before .before .before .has-names .ensures) ∙ not-false _ (c .before .before .before .before .before .before .before .before .before .before .if1 .left))) (c .before .before .before .before .before .before .before .before .read-lines .ensures .0) (c .before .before .before .before .before .before .before .before .read-lines .ensures .1) (c .before .before .before .before .before .line .given .1) in
     let v = c .before .before .values-of .ensures ∙ values-read (c .before .before .before .before .before .before .before .before .before .before .before .before .before .args .input .now) (c .before .before .before .before .before .before .before .before .read-lines .last .1 .1 .1 .1 .1 .0) (l .read) in
     wrote-whole (sheetOf (c .before .before .before .before .before .before .before .before .before .before .before .before .before .args .input .now)) (lines-formed (c .before .before .before .before .before .before .before .before .before .before .before .before .before .args .input .now) (sym (c .before .before .before .before .before .before .before .before .before .before .before .has-names .ensures) ∙ not-false _ (c .before .before .before .before .before .before .before .before .before .before .if1 .left)) (l .formed)) (rw v at (c .answer-values .ensures))
 
