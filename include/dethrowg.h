@@ -14,8 +14,12 @@
  * larger than the picture needs. The chroma width is ceil(width/2); the chroma height is
  * ceil(height/2) in 4:2:0 and the height in 4:2:2.
  *
- * Every pointer stands for as many elements as the length beside it says, and must not be null,
- * even where that length is 0. The destination must not overlap a plane.
+ * A buffer is a pointer and the length that follows it. Every function counts on this, also where it
+ * refuses, and no question tests it: the pointer is aligned for its element and not null, even at
+ * length 0; all elements up to the length can be read, and written in a destination that is converted
+ * into, also those that the picture does not need; that destination overlaps no plane; and no one else
+ * writes to the buffers during the call. Planes may overlap each other. No pointer is kept after the
+ * call, and nothing else is kept between calls.
  */
 #ifndef DETHROWG_H
 #define DETHROWG_H
@@ -38,8 +42,8 @@ extern "C" {
  *    8  the luma plane is long enough                  (needed, actual)
  *    9, 10  the same of the U plane, with chroma width and height
  *   11, 12  the same of the V plane
- *   13  custom weights: both are from 0 to 1, (1 - kr) - kb is above 0, and the two green
- *       coefficients together are at most 32767
+ *   13  custom weights: both are from 0 to 1, (1 - kr) - kb in float is above 0, and the two
+ *       green coefficients together are at most 32767
  *   14  the row is below the height
  * expected and received are the two values in parentheses, else 0. Needed is
  * stride * (height - 1) + the elements of a row. */

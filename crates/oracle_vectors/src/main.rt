@@ -1,0 +1,319 @@
+// Replays stored answers of the Rust through the public entries, and prints how many were compared and how many differ.
+// The list is the file `stdin` beside src/: a line of column names, then a line of 32 numbers for each call. tests/oracle made it by
+// running the Rust: cargo run --offline --release --bin vectors.
+// Columns: 0 to 4 the codes; 5, 6 the bits of kr and kb; 7, 8 the sides; 9 to 12 the strides of Y, U, V and the destination; 13 to 16
+// their lengths; 17 to 19 how they are filled. Then what the Rust answered: 20 to 22 number, expected, received; 23 a sum over every
+// destination element after the call, kept ones included; 24 to 31 the settings used. The Rust has one name for questions 9 to 12:
+// there the number is that of the first "no".
+ghost use mathlib.Core.Path.{_≡_};
+ghost use Prim.Native.Nat.{_≤_};
+ghost use lib.ListN.{length};
+use libc::STDIN_FILENO;
+use libc::STDOUT_FILENO;
+use yuv_error::Told;
+use yuv_support::Codes;
+use yuv_support::YuvPlanarImage;
+
+struct Column {
+    value: u64,
+    next: usize,
+}
+
+fn wide(byte: u8) -> u16 {
+    byte as u16
+}
+
+// The decimal number at a place of the list, and the place after the space or line end that follows it.
+fn number(list: &[u8], from: usize) -> Column {
+    let mut value: u64 = 0;
+    let mut at = from;
+    while at < list.len() {
+        let byte = list[at];
+        at += 1;
+        if byte <= 32 {
+            return Column { value, next: at };
+        }
+        value = value % 1000000000000000000 * 10 + wide(byte) as u64 % 16;
+    }
+    Column { value, next: at }
+}
+
+// The columns of a line, and the place after it.
+fn read_row(list: &[u8], from: usize, row: &mut [u64; 32]) -> usize {
+    let mut at = from;
+    let mut column: usize = 0;
+    while column < 32 {
+        let n = number(list, at);
+        row[column] = n.value;
+        at = n.next;
+        column += 1;
+    }
+    at
+}
+
+fn narrow(x: u64) -> u32 {
+    (x % 4294967296) as u32
+}
+
+// The weight with these bits. The list has none from 0x7f800000 on.
+fn weight(bits: u64) -> f32 {
+    if bits < 0x7f80_0000 {
+        return f32::from_bits(bits as u32);
+    }
+    0.0
+}
+
+fn codes_of(row: &[u64; 32]) -> Codes {
+    Codes {
+        depth: narrow(row[0]),
+        sampling: narrow(row[1]),
+        order: narrow(row[2]),
+        range: narrow(row[3]),
+        matrix: narrow(row[4]),
+        kr: weight(row[5]),
+        kb: weight(row[6]),
+    }
+}
+
+fn image_of(row: &[u64; 32]) -> YuvPlanarImage {
+    YuvPlanarImage {
+        width: narrow(row[7]),
+        height: narrow(row[8]),
+        y_stride: narrow(row[9]),
+        u_stride: narrow(row[10]),
+        v_stride: narrow(row[11]),
+    }
+}
+
+// A buffer's length. The list has none above 1024.
+fn held(n: u64) -> usize
+    ensures { λ r. ⌜ r ≤ 1024 ⌝ }
+{
+    if n < 1024 {
+        return n as usize;
+    }
+    1024
+}
+
+// The sequence of numbers below 2^31 that fills the buffers: Y, U, V, then the destination.
+fn following(x: u64) -> u64 {
+    (x % 2147483648 * 1103515245 + 12345) % 2147483648
+}
+
+// A sample from 0 to top; where ends is 1, one of the two.
+fn sample(x: u64, top: u64, ends: u64) -> u64 {
+    let most = top % 65536;
+    let level = x / 32768 % (most + 1);
+    if ends == 0 {
+        return level;
+    }
+    if level % 2 == 0 {
+        return 0;
+    }
+    most
+}
+
+// Fills a buffer with what follows a number in the sequence, and answers the last number used.
+fn fill8(buffer: &mut [u8], from: u64, top: u64, ends: u64) -> u64 {
+    let mut x = from;
+    let mut i: usize = 0;
+    while i < buffer.len() {
+        x = following(x);
+        buffer[i] = (sample(x, top, ends) % 256) as u8;
+        i += 1;
+    }
+    x
+}
+
+fn fill16(buffer: &mut [u16], from: u64, top: u64, ends: u64) -> u64 {
+    let mut x = from;
+    let mut i: usize = 0;
+    while i < buffer.len() {
+        x = following(x);
+        buffer[i] = (sample(x, top, ends) % 65536) as u16;
+        i += 1;
+    }
+    x
+}
+
+// The sum with one more element: a polynomial modulo the largest prime below 2^32, so that a change of one element changes it.
+fn summed(sum: u64, element: u16) -> u64 {
+    (sum % 4294967291 * 2147483629 + element as u64 + 1) % 4294967291
+}
+
+fn sum8(buffer: &[u8]) -> u64 {
+    let mut sum: u64 = 0;
+    let mut i: usize = 0;
+    while i < buffer.len() {
+        sum = summed(sum, wide(buffer[i]));
+        i += 1;
+    }
+    sum
+}
+
+fn sum16(buffer: &[u16]) -> u64 {
+    let mut sum: u64 = 0;
+    let mut i: usize = 0;
+    while i < buffer.len() {
+        sum = summed(sum, buffer[i]);
+        i += 1;
+    }
+    sum
+}
+
+// Whether an answer and the sum of the destination are those of the Rust.
+fn is_answer(row: &[u64; 32], answer: Told, sum: u64) -> bool {
+    answer.number == row[20]
+        && answer.expected == row[21]
+        && answer.received == row[22]
+        && sum == row[23]
+}
+
+// Whether the conversion of a line answers as the Rust did. The buffers have the lengths that the line says.
+fn replay8(row: &[u64; 32], y: &mut [u8], u: &mut [u8], v: &mut [u8], rgb: &mut [u8]) -> bool {
+    let after_y = fill8(y, row[17], row[18], row[19]);
+    let after_u = fill8(u, after_y, row[18], row[19]);
+    let after_v = fill8(v, after_u, row[18], row[19]);
+    fill8(rgb, after_v, 255, 0);
+    let answer = yuv_to_rgba_bilinear::yuv_to_rgbx_bilinear(
+        codes_of(row),
+        image_of(row),
+        y,
+        u,
+        v,
+        rgb,
+        narrow(row[12]),
+    );
+    is_answer(row, yuv_error::told_of(answer), sum8(rgb))
+}
+
+fn replay16(row: &[u64; 32], y: &mut [u16], u: &mut [u16], v: &mut [u16], rgb: &mut [u16]) -> bool {
+    let after_y = fill16(y, row[17], row[18], row[19]);
+    let after_u = fill16(u, after_y, row[18], row[19]);
+    let after_v = fill16(v, after_u, row[18], row[19]);
+    fill16(rgb, after_v, 65535, 0);
+    let answer = yuv_p16_to_rgba16_bilinear::yuv16_to_rgbx_bilinear(
+        codes_of(row),
+        image_of(row),
+        y,
+        u,
+        v,
+        rgb,
+        narrow(row[12]),
+    );
+    is_answer(row, yuv_error::told_of(answer), sum16(rgb))
+}
+
+// Room for a buffer.
+fn room8() -> [u8; 1024]
+    ensures { λ r. ⌜ 1024 ≡ length r ⌝ }
+{
+    [0; 1024]
+}
+
+fn room16() -> [u16; 1024]
+    ensures { λ r. ⌜ 1024 ≡ length r ⌝ }
+{
+    [0; 1024]
+}
+
+// The same, with room for the four buffers.
+fn is_same8(row: &[u64; 32]) -> bool {
+    let mut y = room8();
+    let mut u = room8();
+    let mut v = room8();
+    let mut rgb = room8();
+    let y_length = held(row[13]);
+    let u_length = held(row[14]);
+    let v_length = held(row[15]);
+    let rgb_length = held(row[16]);
+    replay8(
+        row,
+        &mut y[..y_length],
+        &mut u[..u_length],
+        &mut v[..v_length],
+        &mut rgb[..rgb_length],
+    )
+}
+
+fn is_same16(row: &[u64; 32]) -> bool {
+    let mut y = room16();
+    let mut u = room16();
+    let mut v = room16();
+    let mut rgb = room16();
+    let y_length = held(row[13]);
+    let u_length = held(row[14]);
+    let v_length = held(row[15]);
+    let rgb_length = held(row[16]);
+    replay16(
+        row,
+        &mut y[..y_length],
+        &mut u[..u_length],
+        &mut v[..v_length],
+        &mut rgb[..rgb_length],
+    )
+}
+
+// Whether the settings used are those of the Rust.
+fn is_settings(row: &[u64; 32]) -> bool {
+    let s = settings_used::settings_used(
+        narrow(row[0]),
+        narrow(row[3]),
+        narrow(row[4]),
+        weight(row[5]),
+        weight(row[6]),
+    );
+    s.number == 0
+        && s.max as u64 == row[24]
+        && s.bias_y as u64 == row[25]
+        && s.bias_uv as u64 == row[26]
+        && s.y as u64 == row[27]
+        && s.cr as u64 == row[28]
+        && s.cb as u64 == row[29]
+        && s.g1 as u64 == row[30]
+        && s.g2 as u64 == row[31]
+}
+
+// 1 where a line's answer differs, else 0.
+fn different(row: &[u64; 32]) -> u64
+    ensures { λ r. ⌜ r ≤ 1 ⌝ }
+{
+    if !is_settings(row) {
+        return 1;
+    }
+    if row[0] == 8 {
+        if is_same8(row) {
+            return 0;
+        }
+        return 1;
+    }
+    if is_same16(row) {
+        return 0;
+    }
+    1
+}
+
+// The names are read as a line that is not compared. A line takes at least a byte, so the list has no more lines than bytes.
+fn replay_all(list: &[u8]) {
+    let mut row = [0u64; 32];
+    let mut at = read_row(list, 0, &mut row);
+    let mut compared: u64 = 0;
+    let mut differing: u64 = 0;
+    while compared < list.len() as u64 && at < list.len() {
+        at = read_row(list, at, &mut row);
+        differing += different(&row);
+        compared += 1;
+    }
+    io::write_all(STDOUT_FILENO, b"answers: ");
+    io::print_decimal(STDOUT_FILENO, compared);
+    io::write_all(STDOUT_FILENO, b" compared, ");
+    io::print_decimal(STDOUT_FILENO, differing);
+    io::write_all(STDOUT_FILENO, b" different\n");
+}
+
+// A list longer than the room would be cut, and the count of answers would show it.
+fn main() {
+    let mut list = [0u8; 524288];
+    let n = io::read_full(STDIN_FILENO, &mut list);
+    replay_all(&list[..n]);
+}

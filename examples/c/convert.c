@@ -1,0 +1,63 @@
+/* Converts a small 4:2:0 frame of bytes to RGBA, prints the settings used, the picture and one
+ * finished row, then a refused call. In the repository, after `rt staticlib dethrowg`:
+ *
+ *   cc -std=c99 -Wall -I include examples/c/convert.c target/staticlib/libdethrowg.a -o target/convert_c
+ *   target/convert_c
+ */
+#include <stdio.h>
+
+#include "dethrowg.h"
+
+enum { WIDTH = 4, HEIGHT = 3, CHANNELS = 4, STRIDE = WIDTH * CHANNELS };
+enum { CHROMA_WIDTH = (WIDTH + 1) / 2, CHROMA_HEIGHT = (HEIGHT + 1) / 2 };
+enum { DEPTH = 8, YUV420 = 0, RGBA = 1, LIMITED = 0, BT709 = 1 };
+
+static const uint8_t y[WIDTH * HEIGHT] = {
+    16, 90, 160, 235,
+    30, 100, 170, 200,
+    40, 110, 180, 220,
+};
+static const uint8_t u[CHROMA_WIDTH * CHROMA_HEIGHT] = {128, 90, 150, 128};
+static const uint8_t v[CHROMA_WIDTH * CHROMA_HEIGHT] = {128, 160, 100, 128};
+
+static void print_pixels(const uint8_t *pixels, size_t count) {
+    for (size_t i = 0; i < count; i++) {
+        const uint8_t *p = pixels + i * CHANNELS;
+        printf("  %3u %3u %3u %3u", p[0], p[1], p[2], p[3]);
+    }
+    printf("\n");
+}
+
+static dethrowg_answer convert(uint8_t *rgb, size_t rgb_len) {
+    return dethrowg_yuv8_to_rgb(
+        DEPTH, YUV420, RGBA, LIMITED, BT709, 0, 0, WIDTH, HEIGHT,
+        y, sizeof y, WIDTH, u, sizeof u, CHROMA_WIDTH, v, sizeof v, CHROMA_WIDTH,
+        rgb, rgb_len, STRIDE);
+}
+
+int main(void) {
+    uint8_t rgb[STRIDE * HEIGHT] = {0};
+    dethrowg_settings_used s = dethrowg_coefficients(DEPTH, LIMITED, BT709, 0, 0);
+    printf("settings used: max %u, biases %u and %u, y %u, cr %u, cb %u, g1 %u, g2 %u\n",
+           s.max, s.bias_y, s.bias_uv, s.y, s.cr, s.cb, s.g1, s.g2);
+
+    dethrowg_answer a = convert(rgb, sizeof rgb);
+    if (a.number != 0)
+        return 1;
+    printf("picture:\n");
+    for (int row = 0; row < HEIGHT; row++)
+        print_pixels(rgb + row * STRIDE, WIDTH);
+
+    dethrowg_part part = dethrowg_row8(RGBA, WIDTH, HEIGHT, rgb, sizeof rgb, STRIDE, 1);
+    if (part.number != 0)
+        return 1;
+    printf("finished row 1, elements %llu to %llu:\n", (unsigned long long)part.start,
+           (unsigned long long)(part.start + part.length - 1));
+    print_pixels(rgb + part.start, part.length / CHANNELS);
+
+    a = convert(rgb, sizeof rgb - 1);
+    printf("destination one element short: number %llu, expected %llu, received %llu\n",
+           (unsigned long long)a.number, (unsigned long long)a.expected,
+           (unsigned long long)a.received);
+    return 0;
+}

@@ -1,0 +1,180 @@
+//! Writes the list that crates/oracle_vectors replays: calls on small buffers, and what the Rust
+//! answers to each. Every call is one that the Rust answers itself: known codes, weights that
+//! question 13 lets through, sides up to 12.
+use oracle::cases::{codes, request, Element, Slack, TIGHT};
+use oracle::random::Random;
+use oracle::{model, reference, Answer, Codes, Extent, Planes, Request};
+
+const COLUMNS: &str = "depth sampling order range matrix kr kb width height \
+    y_stride u_stride v_stride rgb_stride y_len u_len v_len rgb_len seed top ends \
+    number expected received sum max bias_y bias_uv y cr cb g1 g2";
+
+/// The room that the replaying program has for each buffer.
+const ROOM: usize = 1024;
+
+fn main() {
+    let mut list = List { random: Random(2024), lines: Vec::new(), by_number: [0; 13] };
+    settings::<u8>(&mut list);
+    settings::<u16>(&mut list);
+    sides::<u8>(&mut list);
+    sides::<u16>(&mut list);
+    refusals::<u8>(&mut list);
+    refusals::<u16>(&mut list);
+    println!("{COLUMNS}\n{}", list.lines.join("\n"));
+    eprintln!("{} answers, by number: {:?}", list.lines.len(), list.by_number);
+}
+
+struct List {
+    random: Random,
+    lines: Vec<String>,
+    by_number: [u32; 13],
+}
+
+/// Elements whose sum is taken.
+trait Summed: Element + Into<u64> {}
+impl Summed for u8 {}
+impl Summed for u16 {}
+
+/// The sequence that fills the buffers: Y, U, V, then the destination.
+struct Sequence(u64);
+
+impl Sequence {
+    /// Samples from 0 to `top`; where `ends` is set, those two only.
+    fn fill<T: Element>(&mut self, len: usize, top: u64, ends: bool) -> Vec<T> {
+        let mut sample = || {
+            self.0 = (self.0 * 1103515245 + 12345) % (1 << 31);
+            let level = (self.0 >> 15) % (top + 1);
+            match (ends, level % 2) {
+                (false, _) => level,
+                (true, 0) => 0,
+                (true, _) => top,
+            }
+        };
+        (0..len).map(|_| T::low(sample() as u16)).collect()
+    }
+}
+
+/// A polynomial modulo the largest prime below 2^32.
+fn sum<T: Summed>(buffer: &[T]) -> u64 {
+    buffer.iter().fold(0, |sum, element| (sum * 2147483629 + (*element).into() + 1) % 4294967291)
+}
+
+/// Adds a call with its answer.
+fn add<T: Summed>(list: &mut List, mut q: Request, top: u64, ends: bool) {
+    assert!([q.y, q.u, q.v, q.rgb].iter().all(|buffer| buffer.len <= ROOM));
+    if q.codes.matrix < 6 {
+        (q.codes.kr, q.codes.kb) = (0.0, 0.0);
+    }
+    let seed = list.lines.len() as u64 + 1;
+    let mut sequence = Sequence(seed);
+    let planes: Planes<T> = [q.y, q.u, q.v].map(|plane| sequence.fill(plane.len, top, ends));
+    let mut rgb: Vec<T> = sequence.fill(q.rgb.len, (1 << T::BITS) - 1, false);
+    let outcome = T::reference(&q, &planes, &mut rgb);
+    // The Rust has one name for 9 to 12: which of them it is follows from their order.
+    let answer = model::conversion(T::BITS, &q);
+    assert!(reference::agrees(&outcome, answer), "{q:?}: {outcome:?}, {answer:?}");
+    list.by_number[answer.number as usize] += 1;
+    let numbers = line(&q, [seed, top, ends.into()], answer, sum(&rgb));
+    list.lines.push(numbers.map(|number| number.to_string()).join(" "));
+}
+
+#[rustfmt::skip]
+fn line(q: &Request, [seed, top, ends]: [u64; 3], answer: Answer, sum: u64) -> [u64; 32] {
+    let (c, s) = (&q.codes, reference::settings(&q.codes));
+    let small = |number: u32| u64::from(number);
+    [
+        small(c.depth), small(c.sampling), small(c.order), small(c.range), small(c.matrix),
+        small(c.kr.to_bits()), small(c.kb.to_bits()), small(q.width), small(q.height),
+        small(q.y.stride), small(q.u.stride), small(q.v.stride), small(q.rgb.stride),
+        q.y.len as u64, q.u.len as u64, q.v.len as u64, q.rgb.len as u64, seed, top, ends,
+        answer.number, answer.expected, answer.received, sum,
+        small(s.max), small(s.bias_y), small(s.bias_uv),
+        small(s.y), small(s.cr), small(s.cb), small(s.g1), small(s.g2),
+    ]
+}
+
+/// Codes whose weights the Rust can take.
+fn usable<T: Element>(random: &mut Random) -> Codes {
+    loop {
+        let c = codes::<T>(random);
+        let positive = c.kr.is_sign_positive() && c.kb.is_sign_positive();
+        if c.matrix < 6 || positive && model::usable(c.depth, c.range, c.kr, c.kb) {
+            return c;
+        }
+    }
+}
+
+/// Strides and lengths somewhat above their limits.
+fn spare(random: &mut Random) -> [Slack; 4] {
+    [(); 4].map(|_| (random.below(6).into(), random.below(30).into()))
+}
+
+/// Samples within the depth, at its ends, and up to the element's width.
+fn fillings<T: Element>(depth: u32) -> [(u64, bool); 3] {
+    [((1 << depth) - 1, false), ((1 << depth) - 1, true), ((1 << T::BITS) - 1, false)]
+}
+
+/// Every setting with every kind of samples, on buffers at and above their limits.
+fn settings<T: Summed>(list: &mut List) {
+    for n in 0..16 * 8 * T::DEPTHS.len() as u32 {
+        let depth = T::DEPTHS[n as usize / 128];
+        for (top, ends) in fillings::<T>(depth) {
+            let random = &mut list.random;
+            let drawn = usable::<T>(random);
+            let (sampling, order, range) = (n % 2, n / 2 % 4, n / 8 % 2);
+            let mut c = Codes { depth, sampling, order, range, matrix: n / 16 % 8, ..drawn };
+            if c.matrix > 5 {
+                let custom = |c: &Codes| (c.matrix, c.depth, c.range) == (6, depth, range);
+                let weights = (0..).map(|_| usable::<T>(random)).find(custom).unwrap();
+                c = Codes { matrix: 6, kr: weights.kr, kb: weights.kb, ..c };
+            }
+            let (width, height) = (random.between(1, 12), random.between(1, 12));
+            let slack = spare(random);
+            add::<T>(list, request(c, width, height, TIGHT), top, ends);
+            add::<T>(list, request(c, width, height, slack), top, ends);
+        }
+    }
+}
+
+/// All sides from 1 to 12.
+fn sides<T: Summed>(list: &mut List) {
+    for (width, height) in (0..144).map(|n| (n % 12 + 1, n / 12 + 1)) {
+        for sampling in 0..2 {
+            let c = Codes { sampling, ..usable::<T>(&mut list.random) };
+            let (top, ends) = list.random.pick(&fillings::<T>(c.depth));
+            add::<T>(list, request(c, width, height, TIGHT), top, ends);
+        }
+    }
+}
+
+/// Sides of 0; each stride and each length one below its limit, with and without another fault;
+/// strides up to the largest.
+fn refusals<T: Summed>(list: &mut List) {
+    for n in 0..20 {
+        let c = usable::<T>(&mut list.random);
+        let side = list.random.below(12);
+        let (width, height) = if n % 2 == 0 { (0, side) } else { (side, 0) };
+        add::<T>(list, request(c, width, height, TIGHT), 255, false);
+    }
+    for n in 0..400 {
+        let random = &mut list.random;
+        let (c, mut slack) = (usable::<T>(random), spare(random));
+        let (width, height) = (random.between(1, 12), random.between(1, 12));
+        let faults = [n % 8, if n % 3 == 0 { random.below(8) } else { n % 8 }];
+        for fault in faults {
+            let (stride, len) = &mut slack[fault as usize / 2];
+            *if fault % 2 == 0 { stride } else { len } = -1;
+        }
+        add::<T>(list, request(c, width, height, slack), 255, false);
+    }
+    for n in 0..60 {
+        let random = &mut list.random;
+        let (c, slack) = (usable::<T>(random), spare(random));
+        let height = random.pick(&[1, 1, 2, 7]);
+        let mut q = request(c, random.between(1, 12), height, slack);
+        let stride = random.pick(&[0, 1 << 31, u32::MAX]);
+        let buffers: [&mut Extent; 4] = [&mut q.rgb, &mut q.y, &mut q.u, &mut q.v];
+        buffers[n % 4].stride = stride;
+        add::<T>(list, q, 255, false);
+    }
+}
