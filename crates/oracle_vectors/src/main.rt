@@ -5,9 +5,7 @@
 // their lengths; 17 to 19 how they are filled. Then what the Rust answered: 20 to 22 number, expected, received; 23 a sum over every
 // destination element after the call, kept ones included; 24 to 31 the settings used. The Rust has one name for questions 9 to 12:
 // there the number is that of the first "no".
-ghost use mathlib.Core.Path.{_≡_};
 ghost use Prim.Native.Nat.{_≤_};
-ghost use lib.ListN.{length};
 use libc::STDIN_FILENO;
 use libc::STDOUT_FILENO;
 use yuv_error::Told;
@@ -86,11 +84,11 @@ fn image_of(row: &[u64; 32]) -> YuvPlanarImage {
 }
 
 // A buffer's length. The list has none above 1024.
-fn held(n: u64) -> usize
+fn held(length: u64) -> usize
     ensures { λ r. ⌜ r ≤ 1024 ⌝ }
 {
-    if n < 1024 {
-        return n as usize;
+    if length < 1024 {
+        return length as usize;
     }
     1024
 }
@@ -204,25 +202,12 @@ fn replay16(row: &[u64; 32], y: &mut [u16], u: &mut [u16], v: &mut [u16], rgb: &
     is_answer(row, yuv_error::told_of(answer), sum16(rgb))
 }
 
-// Room for a buffer.
-fn room8() -> [u8; 1024]
-    ensures { λ r. ⌜ 1024 ≡ length r ⌝ }
-{
-    [0; 1024]
-}
-
-fn room16() -> [u16; 1024]
-    ensures { λ r. ⌜ 1024 ≡ length r ⌝ }
-{
-    [0; 1024]
-}
-
 // The same, with room for the four buffers.
 fn is_same8(row: &[u64; 32]) -> bool {
-    let mut y = room8();
-    let mut u = room8();
-    let mut v = room8();
-    let mut rgb = room8();
+    let mut y = [0u8; 1024];
+    let mut u = [0u8; 1024];
+    let mut v = [0u8; 1024];
+    let mut rgb = [0u8; 1024];
     let y_length = held(row[13]);
     let u_length = held(row[14]);
     let v_length = held(row[15]);
@@ -237,10 +222,10 @@ fn is_same8(row: &[u64; 32]) -> bool {
 }
 
 fn is_same16(row: &[u64; 32]) -> bool {
-    let mut y = room16();
-    let mut u = room16();
-    let mut v = room16();
-    let mut rgb = room16();
+    let mut y = [0u16; 1024];
+    let mut u = [0u16; 1024];
+    let mut v = [0u16; 1024];
+    let mut rgb = [0u16; 1024];
     let y_length = held(row[13]);
     let u_length = held(row[14]);
     let v_length = held(row[15]);

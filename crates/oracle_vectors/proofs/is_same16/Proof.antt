@@ -2,22 +2,9 @@
 -- Assumes nothing.
 use mathlib.Core.Path.{sym}
 use lib.Seq.{length-take-le}
-use native.Mathlib.Omega.{arith}
 use borrow.Author.Needs.{needs}
 use Rattle.oracle_vectors.proofs.is_same16.Statement.{statement}
 use Rattle.oracle_vectors.proofs.is_same16.Tie as tie
-
-room16-requires : tie.Need-room16-requires
-room16-requires c κs = search needs
-
-room16-requires-2 : tie.Need-room16-requires-2
-room16-requires-2 c κs = search needs
-
-room16-requires-3 : tie.Need-room16-requires-3
-room16-requires-3 c κs = search needs
-
-room16-requires-4 : tie.Need-room16-requires-4
-room16-requires-4 c κs = search needs
 
 element-copy-out-held : tie.Need-element-copy-out-held
 element-copy-out-held c = search needs
@@ -47,25 +34,25 @@ array-borrow-prefix-y : tie.Need-array-borrow-prefix-y
 array-borrow-prefix-y c = search needs
 
 slice-aggregate-replay16 : tie.Need-slice-aggregate-replay16
-slice-aggregate-replay16 c = sym (length-take-le _ _ (omega arith))
+slice-aggregate-replay16 c = sym (length-take-le _ _ (c .before .before .before .before .before .before .before .held .ensures))
 
 array-borrow-prefix-u : tie.Need-array-borrow-prefix-u
 array-borrow-prefix-u c = search needs
 
 slice-aggregate-replay16-2 : tie.Need-slice-aggregate-replay16-2
-slice-aggregate-replay16-2 c = sym (length-take-le _ _ (omega arith))
+slice-aggregate-replay16-2 c = sym (length-take-le _ _ (c .before .before .before .before .before .before .held2 .ensures))
 
 array-borrow-prefix-v : tie.Need-array-borrow-prefix-v
 array-borrow-prefix-v c = search needs
 
 slice-aggregate-replay16-3 : tie.Need-slice-aggregate-replay16-3
-slice-aggregate-replay16-3 c = sym (length-take-le _ _ (omega arith))
+slice-aggregate-replay16-3 c = sym (length-take-le _ _ (c .before .before .before .before .before .held3 .ensures))
 
 array-borrow-prefix-rgb : tie.Need-array-borrow-prefix-rgb
 array-borrow-prefix-rgb c = search needs
 
 slice-aggregate-replay16-4 : tie.Need-slice-aggregate-replay16-4
-slice-aggregate-replay16-4 c = sym (length-take-le _ _ (omega arith))
+slice-aggregate-replay16-4 c = sym (length-take-le _ _ (c .before .before .before .before .held4 .ensures))
 
 replay16-requires : tie.Need-replay16-requires
 replay16-requires c κs = search needs
@@ -77,10 +64,6 @@ pub is-same16-spec : {M : Type 1} → statement M
 is-same16-spec =
     tie.close
     (tie.spec
-    room16-requires
-    room16-requires-2
-    room16-requires-3
-    room16-requires-4
     element-copy-out-held
     held-requires
     element-copy-out-held-2

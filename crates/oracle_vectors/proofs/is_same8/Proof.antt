@@ -2,22 +2,9 @@
 -- Assumes nothing.
 use mathlib.Core.Path.{sym}
 use lib.Seq.{length-take-le}
-use native.Mathlib.Omega.{arith}
 use borrow.Author.Needs.{needs}
 use Rattle.oracle_vectors.proofs.is_same8.Statement.{statement}
 use Rattle.oracle_vectors.proofs.is_same8.Tie as tie
-
-room8-requires : tie.Need-room8-requires
-room8-requires c κs = search needs
-
-room8-requires-2 : tie.Need-room8-requires-2
-room8-requires-2 c κs = search needs
-
-room8-requires-3 : tie.Need-room8-requires-3
-room8-requires-3 c κs = search needs
-
-room8-requires-4 : tie.Need-room8-requires-4
-room8-requires-4 c κs = search needs
 
 element-copy-out-held : tie.Need-element-copy-out-held
 element-copy-out-held c = search needs
@@ -47,25 +34,25 @@ array-borrow-prefix-y : tie.Need-array-borrow-prefix-y
 array-borrow-prefix-y c = search needs
 
 slice-aggregate-replay8 : tie.Need-slice-aggregate-replay8
-slice-aggregate-replay8 c = sym (length-take-le _ _ (omega arith))
+slice-aggregate-replay8 c = sym (length-take-le _ _ (c .before .before .before .before .before .before .before .held .ensures))
 
 array-borrow-prefix-u : tie.Need-array-borrow-prefix-u
 array-borrow-prefix-u c = search needs
 
 slice-aggregate-replay8-2 : tie.Need-slice-aggregate-replay8-2
-slice-aggregate-replay8-2 c = sym (length-take-le _ _ (omega arith))
+slice-aggregate-replay8-2 c = sym (length-take-le _ _ (c .before .before .before .before .before .before .held2 .ensures))
 
 array-borrow-prefix-v : tie.Need-array-borrow-prefix-v
 array-borrow-prefix-v c = search needs
 
 slice-aggregate-replay8-3 : tie.Need-slice-aggregate-replay8-3
-slice-aggregate-replay8-3 c = sym (length-take-le _ _ (omega arith))
+slice-aggregate-replay8-3 c = sym (length-take-le _ _ (c .before .before .before .before .before .held3 .ensures))
 
 array-borrow-prefix-rgb : tie.Need-array-borrow-prefix-rgb
 array-borrow-prefix-rgb c = search needs
 
 slice-aggregate-replay8-4 : tie.Need-slice-aggregate-replay8-4
-slice-aggregate-replay8-4 c = sym (length-take-le _ _ (omega arith))
+slice-aggregate-replay8-4 c = sym (length-take-le _ _ (c .before .before .before .before .held4 .ensures))
 
 replay8-requires : tie.Need-replay8-requires
 replay8-requires c κs = search needs
@@ -77,10 +64,6 @@ pub is-same8-spec : {M : Type 1} → statement M
 is-same8-spec =
     tie.close
     (tie.spec
-    room8-requires
-    room8-requires-2
-    room8-requires-3
-    room8-requires-4
     element-copy-out-held
     held-requires
     element-copy-out-held-2
