@@ -1,8 +1,11 @@
--- The second chroma row that a luma row blends.
+-- The chroma rows that a luma row blends, and a row of a plane as a part of it.
 -- Definitions only.
 use Prim.Native.Nat.{ℕ}
+use mathlib.Core.List.{List}
+use lib.ListN.{take, drop}
 use Rattle.yuv_support.specs.declared.YuvChromaSubsampling.{YuvChromaSubsampling}
-use Rattle.yuv_support.specs.Blend.{Rows, one, two, rowsOf, nearRow, farRow}
+use Rattle.yuv_support.specs.Blend.{Rows, one, two, rowsOf, nearRow, farRow, chromaWidth}
+use Rattle.images.specs.declared.ChromaRows.{ChromaRows}
 
 abbrev pub secondOf : Rows → ℕ → ℕ → ℕ
 secondOf one near far = near
@@ -11,3 +14,10 @@ secondOf two near far = far
 -- the far row; where the luma row blends one chroma row only, the near row again
 unfoldable pub otherRow : YuvChromaSubsampling → ℕ → ℕ → ℕ
 otherRow s height row = secondOf (rowsOf s height row) (nearRow s height row) (farRow s height row)
+
+abbrev pub chromaRows : YuvChromaSubsampling → ℕ → ℕ → ℕ → ChromaRows
+chromaRows s width height row = record { near = nearRow s height row; other = otherRow s height row; columns = chromaWidth width }
+
+-- n elements from place `start` on
+abbrev pub part : List ℕ → ℕ → ℕ → List ℕ
+part xs start n = take n (drop start xs)

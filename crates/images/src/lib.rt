@@ -3,15 +3,16 @@
 ghost use mathlib.Core.Path.{_≡_};
 ghost use mathlib.Core.Bool.{true};
 ghost use mathlib.Core.List.{_∷_, []};
-ghost use Prim.Native.Nat.{_*_, _≤_, _<_};
+ghost use Prim.Native.Nat.{_+_, _*_, _≤_, _<_};
 ghost use lib.Dec.{T, leb};
+ghost use lib.ListN.{length};
 ghost use Rattle.yuv_support.specs.Settings.{among, depths};
 ghost use Rattle.yuv_support.specs.Coefficients.{usable};
 ghost use Rattle.yuv_support.specs.Blend.{chromaWidth, chromaHeight, nextRow, nearRow};
 ghost use Rattle.yuv_support.specs.Picture.{channelsOf};
 ghost use Rattle.yuv_support.specs.Questions.{verdict, ask, extent, samplingKnown, codesKnown, chromaPlanes, rowBelow, questionsOf, rowQuestions, chromaRowQuestions};
 ghost use Rattle.yuv_error.specs.Told.{told};
-ghost use Rattle.images.specs.Rows.{otherRow};
+ghost use Rattle.images.specs.Rows.{otherRow, chromaRows, part};
 ghost use Rattle.images.specs.Request.{requestOf, constraints};
 use yuv_error::YuvError;
 use yuv_support::Codes;
@@ -89,6 +90,44 @@ pub fn other_row(sampling: YuvChromaSubsampling, height: u32, row: u32) -> u32
         }
         YuvChromaSubsampling::Yuv422 => row,
     }
+}
+
+// The chroma that a luma row blends: its near and its other chroma row, and how many samples each has.
+pub struct ChromaRows {
+    pub near: u32,
+    pub other: u32,
+    pub columns: u32,
+}
+
+pub fn chroma_rows(sampling: YuvChromaSubsampling, width: u32, height: u32, row: u32) -> ChromaRows
+    requires { ⌜ row < height ⌝ }
+    ensures { λ r. ⌜ r ≡ chromaRows sampling width height row ⌝ }
+{
+    ChromaRows {
+        near: near_row(sampling, height, row),
+        other: other_row(sampling, height, row),
+        columns: chroma_width(width),
+    }
+}
+
+// The first n elements of a row of a plane.
+pub fn row8<'a>(plane: &'a [u8], stride: u32, row: u32, n: u32) -> &'a [u8]
+    requires { ⌜ stride * row + n ≤ length (now plane) ⌝ }
+    ensures { λ r. ⌜ now r ≡ part (now (plane .entry)) (stride * row) n ⌝ }
+{
+    let start = stride as usize * row as usize;
+    let end = start + n as usize;
+    &plane[start..end]
+}
+
+// `row8` at u16.
+pub fn row16<'a>(plane: &'a [u16], stride: u32, row: u32, n: u32) -> &'a [u16]
+    requires { ⌜ stride * row + n ≤ length (now plane) ⌝ }
+    ensures { λ r. ⌜ now r ≡ part (now (plane .entry)) (stride * row) n ⌝ }
+{
+    let start = stride as usize * row as usize;
+    let end = start + n as usize;
+    &plane[start..end]
 }
 
 // width·channels

@@ -6,15 +6,17 @@ use mathlib.Core.Bool.{Bool, true, false}
 use mathlib.Core.List.{List}
 use Prim.Native.Nat.{ℕ, _+_, _-_, _*_, _/_, _≤_, _<_}
 use native.Mathlib.Omega.{arith}
-use lib.ListN.{length, getD, take, drop}
-use lib.Seq.{getD-take, getD-drop}
+use lib.ListN.{length, getD, drop, length-drop}
+use lib.Seq.{getD-take, getD-drop, length-take-le}
 use Rattle.yuv_support.specs.declared.Settings.{Settings}
 use Rattle.yuv_support.specs.Coefficients.{coefficientsOf}
 use Rattle.yuv_support.specs.Blend.{Frame, Chroma, Cb, Cr, Rows, one, two, Place, left, right, tail, sixteenths, rowsOf, placeOf, nearRow, farRow, chromaWidth, chromaHeight, chromaSample, chroma16, rounded}
 use Rattle.yuv_support.specs.Picture.{channelsOf, rowOf, elementOf}
+use Rattle.yuv_support.specs.Questions.{needed}
 use Rattle.yuv_support.proofs.Depths.{by-depth}
-use Rattle.yuv_support.proofs.Rows.{row-fits, row-length}
-use Rattle.images.specs.Rows.{secondOf, otherRow}
+use Rattle.yuv_support.proofs.Rows.{row-fits}
+use Rattle.images.specs.declared.ChromaRows.{ChromaRows}
+use Rattle.images.specs.Rows.{secondOf, otherRow, chromaRows, part}
 use Rattle.images.proofs.Rows.{near-row-below, other-row-below}
 use Rattle.numerics.specs.declared.Kernel.{Kernel}
 use Rattle.numerics.specs.Kernel.{Bytes, Words}
@@ -23,9 +25,12 @@ use Rattle.kernel.specs.Kernels.{redFirst, offsetOf, mostOf, tailOf, arr
 use Rattle.kernel.specs.Ordered.{pick, lastOf, orderedValue, OrderedFits, Ready}
 use Rattle.kernel.proofs.Rows.{row-is}
 
--- element i of the part of n elements from place a on
-pub part-at : (xs : List ℕ) (a e i : ℕ) → i < e - a → getD (take (e - a) (drop a xs)) i 0 ≡ getD xs (a + i) 0
-part-at xs a e i h = getD-take (e - a) (drop a xs) i 0 h ∙ getD-drop a xs i 0
+-- a part of a buffer, if it lies inside: how long it is, and element i of it
+part-length : (xs : List ℕ) (start n : ℕ) → start + n ≤ length xs → length (part xs start n) ≡ n
+part-length xs start n h = length-take-le n (drop start xs) (simp length-drop (omega arith))
+
+pub part-at : (xs : List ℕ) (start n i : ℕ) → i < n → getD (part xs start n) i 0 ≡ getD xs (start + i) 0
+part-at xs start n i h = getD-take n (drop start xs) i 0 h ∙ getD-drop start xs i 0
 
 -- one chroma row has the weights of two equal ones
 one-as-two : (ch : Chroma) (place : Place) (a b c e : ℕ) → sixteenths ch one place a b c e ≡ sixteenths ch two place a b a b
@@ -61,95 +66,107 @@ blended-as-two s f ch row column = go (rowsOf (s .sampling) (f .height) row)
 
 -- ---- the parts of a luma row
 
--- n elements from place a on, as a lent part states it
-abbrev pub part : List ℕ → ℕ → ℕ → List ℕ
-part xs a n = take (a + n - a) (drop a xs)
-
 -- the rows of the planes that a luma row needs lie inside the planes
-pub record PartsIn (f : Frame) (row near far columns : ℕ) : Type 0 where
+pub record PartsIn (f : Frame) (row : ℕ) (p : ChromaRows) : Type 0 where
   pub y : f .y-stride * row + f .width ≤ length (f .y)
-  pub u-near : f .u-stride * near + columns ≤ length (f .u)
-  pub u-far : f .u-stride * far + columns ≤ length (f .u)
-  pub v-near : f .v-stride * near + columns ≤ length (f .v)
-  pub v-far : f .v-stride * far + columns ≤ length (f .v)
+  pub u-near : f .u-stride * p .near + p .columns ≤ length (f .u)
+  pub u-other : f .u-stride * p .other + p .columns ≤ length (f .u)
+  pub v-near : f .v-stride * p .near + p .columns ≤ length (f .v)
+  pub v-other : f .v-stride * p .other + p .columns ≤ length (f .v)
 
-module _ {s : Settings} {f : Frame} {k : Kernel} (ready : Ready s f k) (row near far columns : ℕ) (inside : row < f .height)
-    (en : near ≡ nearRow (s .sampling) (f .height) row) (ef : far ≡ otherRow (s .sampling) (f .height) row) (ec : columns ≡ chromaWidth (f .width)) where
-  near-in : near < chromaHeight (s .sampling) (f .height)
-  near-in = rw en (near-row-below (s .sampling) (f .height) row inside)
+-- the parts themselves
+pub record Parts (f : Frame) (row : ℕ) (p : ChromaRows) (y un uf vn vf : List ℕ) : Type 0 where
+  pub y-is : y ≡ part (f .y) (f .y-stride * row) (f .width)
+  pub u-near : un ≡ part (f .u) (f .u-stride * p .near) (p .columns)
+  pub u-other : uf ≡ part (f .u) (f .u-stride * p .other) (p .columns)
+  pub v-near : vn ≡ part (f .v) (f .v-stride * p .near) (p .columns)
+  pub v-other : vf ≡ part (f .v) (f .v-stride * p .other) (p .columns)
 
-  far-in : far < chromaHeight (s .sampling) (f .height)
-  far-in = rw ef (other-row-below (s .sampling) (f .height) row inside)
+-- of the chroma rows p that the code finds
+module _ {s : Settings} {f : Frame} {k : Kernel} (ready : Ready s f k) (row : ℕ) {p : ChromaRows} (inside : row < f .height)
+    (is : p ≡ chromaRows (s .sampling) (f .width) (f .height) row) where
+  columns-are : p .columns ≡ chromaWidth (f .width)
+  columns-are = rw is
 
-  pub parts-in : PartsIn f row near far columns
-  parts-in = record {
-    y = row-fits (f .y-stride) (f .width) (f .height) row (length (f .y)) (ready .y-length) inside;
-    u-near = rw ec (row-fits (f .u-stride) (chromaWidth (f .width)) (chromaHeight (s .sampling) (f .height)) near (length (f .u)) (ready .u-length) near-in);
-    u-far = rw ec (row-fits (f .u-stride) (chromaWidth (f .width)) (chromaHeight (s .sampling) (f .height)) far (length (f .u)) (ready .u-length) far-in);
-    v-near = rw ec (row-fits (f .v-stride) (chromaWidth (f .width)) (chromaHeight (s .sampling) (f .height)) near (length (f .v)) (ready .v-length) near-in);
-    v-far = rw ec (row-fits (f .v-stride) (chromaWidth (f .width)) (chromaHeight (s .sampling) (f .height)) far (length (f .v)) (ready .v-length) far-in);
-  }
-
-  pub parts-fit : (xs : List ℕ) → length xs ≡ f .width * channelsOf (s .order)
-      → OrderedFits (s .order) xs (part (f .y) (f .y-stride * row) (f .width))
-      (part (f .u) (f .u-stride * near) columns) (part (f .u) (f .u-stride * far) columns)
-      (part (f .v) (f .v-stride * near) columns) (part (f .v) (f .v-stride * far) columns) (f .width)
-  parts-fit xs l =
-      let p = parts-in in
+  pub parts-in : PartsIn f row p
+  parts-in =
+      let near : p .near < chromaHeight (s .sampling) (f .height) = rw is (near-row-below (s .sampling) (f .height) row inside) in
+      let other : p .other < chromaHeight (s .sampling) (f .height) = rw is (other-row-below (s .sampling) (f .height) row inside) in
       record {
-        some = ready .width-least;
-        wide = ready .width-most;
-        places = l;
-        luma = omega (arith, row-length (f .y-stride) (f .width) row (f .y) (p .y));
-        u-near = omega (arith, ec, row-length (f .u-stride) columns near (f .u) (p .u-near));
-        u-far = omega (arith, ec, row-length (f .u-stride) columns far (f .u) (p .u-far));
-        v-near = omega (arith, ec, row-length (f .v-stride) columns near (f .v) (p .v-near));
-        v-far = omega (arith, ec, row-length (f .v-stride) columns far (f .v) (p .v-far));
+        y = row-fits (f .y-stride) (f .width) (f .height) row (length (f .y)) (ready .y-length) inside;
+        u-near = chroma-in (f .u-stride) (p .near) (length (f .u)) (ready .u-length) near;
+        u-other = chroma-in (f .u-stride) (p .other) (length (f .u)) (ready .u-length) other;
+        v-near = chroma-in (f .v-stride) (p .near) (length (f .v)) (ready .v-length) near;
+        v-other = chroma-in (f .v-stride) (p .other) (length (f .v)) (ready .v-length) other;
       }
-
-  -- the row that the row functions make of the parts is the row of the definition
-  pub row-of-parts : ((i : ℕ) → getD (f .u) i 0 ≤ mostOf (s .depth)) → ((i : ℕ) → getD (f .v) i 0 ≤ mostOf (s .depth))
-      → (xs : List ℕ) → length xs ≡ f .width * channelsOf (s .order)
-      → rowOf (λ r. orderedValue k (s .order) (f .width) (part (f .y) (f .y-stride * row) (f .width))
-      (part (f .u) (f .u-stride * near) columns) (part (f .u) (f .u-stride * far) columns)
-      (part (f .v) (f .v-stride * near) columns) (part (f .v) (f .v-stride * far) columns)) 0 xs
-      ≡ rowOf (elementOf s f) row xs
-  unfolding orderedValue
-  row-of-parts hu hv xs l =
-      rw (ready .kernel)
-      (row-is s f (ready .known) (ready .weights) small row near far blended (part (f .y) (f .y-stride * row) (f .width)) nears fars lasts
-      (λ i h. part-at (f .y) (f .y-stride * row) (f .y-stride * row + f .width) i (omega arith)) near-at far-at last-at xs l)
     where
-      small : (ch : Chroma) (r i : ℕ) → chromaSample s f ch r i ≤ mostOf (s .depth)
-      small Cb r i = hu (f .u-stride * r + i)
-      small Cr r i = hv (f .v-stride * r + i)
+      chroma-in : (stride r size : ℕ) → needed stride (chromaWidth (f .width)) (chromaHeight (s .sampling) (f .height)) ≤ size
+          → r < chromaHeight (s .sampling) (f .height) → stride * r + p .columns ≤ size
+      chroma-in stride r size long below =
+          rw columns-are (row-fits stride (chromaWidth (f .width)) (chromaHeight (s .sampling) (f .height)) r size long below)
 
-      blended : (ch : Chroma) (column : ℕ) → chroma16 s f ch row column
-          ≡ sixteenths ch two (placeOf (f .width) column) (chromaSample s f ch near (column / 2)) (chromaSample s f ch near (column / 2 + 1))
-          (chromaSample s f ch far (column / 2)) (chromaSample s f ch far (column / 2 + 1))
-      blended ch column = rw (en, ef) (blended-as-two s f ch row column)
+  module _ {y un uf vn vf : List ℕ} (parts : Parts f row p y un uf vn vf) (xs : List ℕ) (l : length xs ≡ f .width * channelsOf (s .order)) where
+    pub parts-fit : OrderedFits (s .order) xs y un uf vn vf (f .width)
+    parts-fit = record {
+      some = ready .width-least;
+      wide = ready .width-most;
+      places = l;
+      luma = rw (parts .y-is) (as-long (f .y) (f .y-stride * row) (f .width) (parts-in .y) refl);
+      u-near = rw (parts .u-near) (as-long (f .u) (f .u-stride * p .near) (p .columns) (parts-in .u-near) columns-are);
+      u-far = rw (parts .u-other) (as-long (f .u) (f .u-stride * p .other) (p .columns) (parts-in .u-other) columns-are);
+      v-near = rw (parts .v-near) (as-long (f .v) (f .v-stride * p .near) (p .columns) (parts-in .v-near) columns-are);
+      v-far = rw (parts .v-other) (as-long (f .v) (f .v-stride * p .other) (p .columns) (parts-in .v-other) columns-are);
+    }
+      where
+        as-long : (plane : List ℕ) (start n : ℕ) {m : ℕ} → start + n ≤ length plane → n ≡ m → m ≤ length (part plane start n)
+        as-long plane start n h e = omega (arith, part-length plane start n h)
 
-      nears : Chroma → List ℕ
-      nears ch = pick ch (part (f .u) (f .u-stride * near) columns) (part (f .v) (f .v-stride * near) columns)
+    -- the row that the row functions make of the parts is the row of the definition
+    pub row-of-parts : ((i : ℕ) → getD (f .u) i 0 ≤ mostOf (s .depth)) → ((i : ℕ) → getD (f .v) i 0 ≤ mostOf (s .depth))
+        → rowOf (λ r. orderedValue k (s .order) (f .width) y un uf vn vf) 0 xs ≡ rowOf (elementOf s f) row xs
+    unfolding orderedValue
+    row-of-parts hu hv =
+        rw (ready .kernel)
+        (row-is s f (ready .known) (ready .weights) small row (p .near) (p .other) blended y nears fars lasts luma-at near-at far-at last-at xs l)
+      where
+        small : (ch : Chroma) (r i : ℕ) → chromaSample s f ch r i ≤ mostOf (s .depth)
+        small Cb r i = hu (f .u-stride * r + i)
+        small Cr r i = hv (f .v-stride * r + i)
 
-      fars : Chroma → List ℕ
-      fars ch = pick ch (part (f .u) (f .u-stride * far) columns) (part (f .v) (f .v-stride * far) columns)
+        blended : (ch : Chroma) (column : ℕ) → chroma16 s f ch row column
+            ≡ sixteenths ch two (placeOf (f .width) column) (chromaSample s f ch (p .near) (column / 2)) (chromaSample s f ch (p .near) (column / 2 + 1))
+            (chromaSample s f ch (p .other) (column / 2)) (chromaSample s f ch (p .other) (column / 2 + 1))
+        blended ch column = rw is (blended-as-two s f ch row column)
 
-      lasts : Chroma → ℕ
-      lasts ch = lastOf (f .width) ch (nears ch) (fars ch)
+        nears : Chroma → List ℕ
+        nears ch = pick ch un vn
 
-      near-at : (ch : Chroma) (i : ℕ) → i < chromaWidth (f .width) → at (nears ch) i ≡ chromaSample s f ch near i
-      near-at Cb i h = part-at (f .u) (f .u-stride * near) (f .u-stride * near + columns) i (omega (arith, ec))
-      near-at Cr i h = part-at (f .v) (f .v-stride * near) (f .v-stride * near + columns) i (omega (arith, ec))
+        fars : Chroma → List ℕ
+        fars ch = pick ch uf vf
 
-      far-at : (ch : Chroma) (i : ℕ) → i < chromaWidth (f .width) → at (fars ch) i ≡ chromaSample s f ch far i
-      far-at Cb i h = part-at (f .u) (f .u-stride * far) (f .u-stride * far + columns) i (omega (arith, ec))
-      far-at Cr i h = part-at (f .v) (f .v-stride * far) (f .v-stride * far + columns) i (omega (arith, ec))
+        lasts : Chroma → ℕ
+        lasts ch = lastOf (f .width) ch (nears ch) (fars ch)
 
-      last-at : (ch : Chroma) → lasts ch ≡ rounded (tailOf ch (chromaSample s f ch near (chromaWidth (f .width) - 1)) (chromaSample s f ch far (chromaWidth (f .width) - 1)))
-      last-at ch =
-          let w = ready .width-least in
-          rw (near-at ch (chromaWidth (f .width) - 1) (omega arith), far-at ch (chromaWidth (f .width) - 1) (omega arith))
+        luma-at : (i : ℕ) → i < f .width → at y i ≡ getD (f .y) (f .y-stride * row + i) 0
+        luma-at i h = rw (parts .y-is) (part-at (f .y) (f .y-stride * row) (f .width) i h)
+
+        -- sample i of a part of a chroma plane
+        sample-at : {part-of : List ℕ} (plane : List ℕ) (start : ℕ) → part-of ≡ part plane start (p .columns) → (i : ℕ) → i < chromaWidth (f .width)
+            → at part-of i ≡ getD plane (start + i) 0
+        sample-at plane start e i h = rw e (part-at plane start (p .columns) i (rw columns-are h))
+
+        near-at : (ch : Chroma) (i : ℕ) → i < chromaWidth (f .width) → at (nears ch) i ≡ chromaSample s f ch (p .near) i
+        near-at Cb = sample-at (f .u) (f .u-stride * p .near) (parts .u-near)
+        near-at Cr = sample-at (f .v) (f .v-stride * p .near) (parts .v-near)
+
+        far-at : (ch : Chroma) (i : ℕ) → i < chromaWidth (f .width) → at (fars ch) i ≡ chromaSample s f ch (p .other) i
+        far-at Cb = sample-at (f .u) (f .u-stride * p .other) (parts .u-other)
+        far-at Cr = sample-at (f .v) (f .v-stride * p .other) (parts .v-other)
+
+        last-at : (ch : Chroma) → lasts ch ≡ rounded (tailOf ch (chromaSample s f ch (p .near) (chromaWidth (f .width) - 1)) (chromaSample s f ch (p .other) (chromaWidth (f .width) - 1)))
+        last-at ch =
+            let w = ready .width-least in
+            rw (near-at ch (chromaWidth (f .width) - 1) (omega arith), far-at ch (chromaWidth (f .width) - 1) (omega arith))
 
 -- ---- the largest sample of a kernel's width
 

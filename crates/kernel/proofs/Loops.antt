@@ -7,35 +7,52 @@ use native.Mathlib.Omega.{arith}
 use lib.ListN.{length, take, drop}
 use borrow.Rule.Slice.PartMut.{putMid}
 use Rattle.yuv_support.specs.Picture.{rowOf, painted}
-use Rattle.yuv_support.proofs.Rows.{painted-none, painted-length, row-back}
+use Rattle.yuv_support.specs.Questions.{needed}
+use Rattle.yuv_support.proofs.Rows.{painted-none, painted-length, row-fits, row-length, row-back}
 
--- the rows from `first` to r are written
+-- the rows from `first` to r are written, and every row up to `end` lies in the destination
 pub record RowsDone (f : ℕ → ℕ → ℕ) (stride n first end : ℕ) (rgb₀ rgb : List ℕ) (r : ℕ) : Type 0 where
   pub started : first ≤ r
   pub below : r ≤ end
+  pub wide : n ≤ stride
+  pub room : (q : ℕ) → q < end → stride * q + n ≤ length rgb₀
   pub same : length rgb ≡ length rgb₀
   pub done : rgb ≡ painted f stride n first (r - first) rgb₀
 
-module _ (f : ℕ → ℕ → ℕ) (stride n first end : ℕ) (rgb₀ : List ℕ) where
-  pub rows-begin : first ≤ end → RowsDone f stride n first end rgb₀ rgb₀ first
-  rows-begin h =
-      let e : first - first ≡ 0 = omega arith in
-      record { started = omega arith; below = h; same = refl; done = rw e (painted-none f stride n first rgb₀) }
-
-  pub rows-next : {rgb row : List ℕ} {r : ℕ} → n ≤ stride → stride * r + n ≤ length rgb₀ → RowsDone f stride n first end rgb₀ rgb r → r < end
-      → row ≡ rowOf f r (take (stride * r + n - stride * r) (drop (stride * r) rgb))
-      → RowsDone f stride n first end rgb₀ (putMid (stride * r) (stride * r + n - stride * r) rgb row) (r + 1)
-  rows-next {rgb} {row} {r} w fits d t e =
-      let s = d .started in
-      let q : r + 1 - first ≡ r - first + 1 = omega arith in
-      let b = row-back f stride n first (r - first) r rgb₀ rgb row w fits (omega arith) (d .done) e in
+module _ {f : ℕ → ℕ → ℕ} {stride n first end : ℕ} {rgb₀ : List ℕ} where
+  pub rows-begin : {m : ℕ} (height : ℕ) → n ≡ m → first ≤ end → m ≤ stride → needed stride m height ≤ length rgb₀ → end ≤ height
+      → RowsDone f stride n first end rgb₀ rgb₀ first
+  rows-begin height e h w long inside =
+      let z : first - first ≡ 0 = omega arith in
       record {
         started = omega arith;
-        below = omega arith;
-        same = ap length b ∙ painted-length f stride n first (r - first + 1) rgb₀;
-        done = rw q b;
+        below = h;
+        wide = omega arith;
+        room = λ q t. rw e (row-fits stride _ height q (length rgb₀) long (omega arith));
+        same = refl;
+        done = rw z (painted-none f stride n first rgb₀);
       }
 
-  pub rows-end : {rgb : List ℕ} {r : ℕ} (count : ℕ) → end ≡ first + count → RowsDone f stride n first end rgb₀ rgb r → end ≤ r
-      → rgb ≡ painted f stride n first count rgb₀
-  rows-end {rgb} {r} count h d l = let b = d .below in let e : r - first ≡ count = omega arith in d .done ∙ rw e
+  module _ {rgb : List ℕ} {r : ℕ} (d : RowsDone f stride n first end rgb₀ rgb r) (t : r < end) where
+    -- the next row, as a lent part, is as long as a row
+    pub next-length : length (take (stride * r + n - stride * r) (drop (stride * r) rgb)) ≡ n
+    next-length = row-length stride n r rgb (rw (d .same) (d .room r t))
+
+    pub rows-next : {row : List ℕ} → row ≡ rowOf f r (take (stride * r + n - stride * r) (drop (stride * r) rgb))
+        → RowsDone f stride n first end rgb₀ (putMid (stride * r) (stride * r + n - stride * r) rgb row) (r + 1)
+    rows-next {row} e =
+        let s = d .started in
+        let q : r + 1 - first ≡ r - first + 1 = omega arith in
+        let b = row-back f stride n first (r - first) r rgb₀ rgb row (d .wide) (d .room r t) (omega arith) (d .done) e in
+        record {
+          started = omega arith;
+          below = omega arith;
+          wide = d .wide;
+          room = d .room;
+          same = ap length b ∙ painted-length f stride n first (r - first + 1) rgb₀;
+          done = rw q b;
+        }
+
+  pub rows-end : {rgb : List ℕ} {r m : ℕ} (count : ℕ) → n ≡ m → end ≡ first + count → RowsDone f stride n first end rgb₀ rgb r → end ≤ r
+      → rgb ≡ painted f stride m first count rgb₀
+  rows-end {rgb} {r} count n-is h d l = let b = d .below in let e : r - first ≡ count = omega arith in d .done ∙ rw (e, n-is)

@@ -20,7 +20,7 @@ pub record PairsDone (k : Kernel) (n : ℕ) (y pn pf qn qf : List ℕ) (pairs : 
   pub same : length row ≡ length row₀
   pub done : row ≡ overlay (upTo (2 * n * j) (pairsValue k n y pn pf qn qf)) 0 row₀
 
-module _ (k : Kernel) (n : ℕ) (y pn pf qn qf : List ℕ) (pairs : ℕ) (row₀ : List ℕ) where
+module _ {k : Kernel} {n : ℕ} {y pn pf qn qf : List ℕ} {pairs : ℕ} {row₀ : List ℕ} where
   pub pairs-begin : PairsDone k n y pn pf qn qf pairs row₀ row₀ 0
   pairs-begin = record { below = omega arith; same = refl; done = rw (mul-zero (2 * n)) (up-none (pairsValue k n y pn pf qn qf) row₀) }
 
@@ -46,18 +46,16 @@ module _ (k : Kernel) (n : ℕ) (y pn pf qn qf : List ℕ) (pairs : ℕ) (row₀
     next : {row′ : List ℕ} → row′ ≡ overlay (upTo (2 * n * (j + 1)) (pairsValue k n y pn pf qn qf)) 0 row₀ → PairsDone k n y pn pf qn qf pairs row₀ row′ (j + 1)
     next e = record { below = omega arith; same = ap length e ∙ overlay-length _ 0 row₀; done = e }
 
-module _ (k : Kernel) (y pn pf qn qf : List ℕ) (pairs : ℕ) (row₀ : List ℕ) {row row′ : List ℕ} {j : ℕ} where
+module _ {k : Kernel} {y pn pf qn qf : List ℕ} {pairs : ℕ} {row₀ row row′ : List ℕ} {j : ℕ} where
   pub pairs-next4 : PairsFit 4 row₀ y pn pf qn qf pairs → PairsDone k 4 y pn pf qn qf pairs row₀ row j → j < pairs
       → row′ ≡ sets row (8 * j) (pair4 k y pn pf qn qf j) → PairsDone k 4 y pn pf qn qf pairs row₀ row′ (j + 1)
   pairs-next4 f d t e =
-      next k 4 y pn pf qn qf pairs row₀ f d t
-      (pair-turn4 k y pn pf qn qf j row₀ row row′ (let r = room k 4 y pn pf qn qf pairs row₀ f d t in omega arith) (d .done) e)
+      next f d t (pair-turn4 k y pn pf qn qf j row₀ row row′ (let r = room f d t in omega arith) (d .done) e)
 
   pub pairs-next3 : PairsFit 3 row₀ y pn pf qn qf pairs → PairsDone k 3 y pn pf qn qf pairs row₀ row j → j < pairs
       → row′ ≡ sets row (6 * j) (pair3 k y pn pf qn qf j) → PairsDone k 3 y pn pf qn qf pairs row₀ row′ (j + 1)
   pairs-next3 f d t e =
-      next k 3 y pn pf qn qf pairs row₀ f d t
-      (pair-turn3 k y pn pf qn qf j row₀ row row′ (let r = room k 3 y pn pf qn qf pairs row₀ f d t in omega arith) (d .done) e)
+      next f d t (pair-turn3 k y pn pf qn qf j row₀ row row′ (let r = room f d t in omega arith) (d .done) e)
 
 -- ---- the tail: the columns from `from` to c are stored
 
@@ -67,7 +65,7 @@ pub record TailDone (k : Kernel) (n : ℕ) (y : List ℕ) (p q from width : ℕ)
   pub same : length row ≡ length row₀
   pub done : row ≡ overlay (upTo (n * c) (resumed (n * from) (tailValue k n y p q) row₀)) 0 row₀
 
-module _ (k : Kernel) (n : ℕ) (y : List ℕ) (p q from width : ℕ) (row₀ : List ℕ) where
+module _ {k : Kernel} {n : ℕ} {y : List ℕ} {p q from width : ℕ} {row₀ : List ℕ} where
   pub tail-begin : from ≤ width → TailDone k n y p q from width row₀ row₀ from
   tail-begin h = record { begun = omega arith; below = h; same = refl; done = tail-none (n * from) (tailValue k n y p q) row₀ }
 
@@ -79,11 +77,11 @@ module _ (k : Kernel) (n : ℕ) (y : List ℕ) (p q from width : ℕ) (row₀ : 
       → row′ ≡ overlay (upTo (n * (c + 1)) (resumed (n * from) (tailValue k n y p q) row₀)) 0 row₀ → TailDone k n y p q from width row₀ row′ (c + 1)
   onward d t e = let b = d .begun in record { begun = omega arith; below = omega arith; same = ap length e ∙ overlay-length _ 0 row₀; done = e }
 
-module _ (k : Kernel) (y : List ℕ) (p q from width : ℕ) (row₀ : List ℕ) {row row′ : List ℕ} {c : ℕ} where
+module _ {k : Kernel} {y : List ℕ} {p q from width : ℕ} {row₀ row row′ : List ℕ} {c : ℕ} where
   pub tail-next4 : length row₀ ≡ 4 * width → TailDone k 4 y p q from width row₀ row c → c < width
       → row′ ≡ sets row (4 * c) (four k (at y c) p q) → TailDone k 4 y p q from width row₀ row′ (c + 1)
-  tail-next4 l d t e = onward k 4 y p q from width row₀ d t (tail-turn4 k y p q from c row₀ row row′ (d .begun) (omega arith) (d .done) e)
+  tail-next4 l d t e = onward d t (tail-turn4 k y p q from c row₀ row row′ (d .begun) (omega arith) (d .done) e)
 
   pub tail-next3 : length row₀ ≡ 3 * width → TailDone k 3 y p q from width row₀ row c → c < width
       → row′ ≡ sets row (3 * c) (three k (at y c) p q) → TailDone k 3 y p q from width row₀ row′ (c + 1)
-  tail-next3 l d t e = onward k 3 y p q from width row₀ d t (tail-turn3 k y p q from c row₀ row row′ (d .begun) (omega arith) (d .done) e)
+  tail-next3 l d t e = onward d t (tail-turn3 k y p q from c row₀ row row′ (d .begun) (omega arith) (d .done) e)

@@ -18,7 +18,7 @@ use Rattle.yuv_support.specs.Picture.{overlay, upTo, rowOf}
 use Rattle.yuv_support.proofs.Overlay.{overlay-length, overlay-at, is-overlay, up-sets, value-at, Values, below-or-not}
 use Rattle.numerics.specs.declared.Kernel.{Kernel}
 use Rattle.numerics.specs.Kernel.{letterOf}
-use Rattle.numerics.specs.Row.{rowValue, at, leftOf, rightOf, pairChroma, rowChroma, three, four, pair3, pair4, pairsValue, tailValue, wholeValue, resumed}
+use Rattle.numerics.specs.Row.{rowValue, at, leftOf, rightOf, pairChroma, rowChroma, three, four, pair3, pair4, pairsValue, tailValue, wholeValue, resumed, RowFits}
 
 -- ---- the letters of a pixel are the values at its places
 
@@ -162,11 +162,11 @@ module _ (k : Kernel) (n width : ℕ) (some : 0 < n) (y pn pf qn qf : List ℕ) 
       column-of-tail : (c : ℕ) → 2 * pairs ≤ c → chromaWidth width ≤ c / 2 + 1
       column-of-tail c h = omega arith
 
-  pub row-joined : (xs row row′ : List ℕ) → length xs ≡ n * width
+  joined : (xs row row′ : List ℕ) → length xs ≡ n * width
       → row ≡ overlay (upTo (2 * n * pairs) (pairsValue k n y pn pf qn qf)) 0 xs
       → row′ ≡ overlay (upTo (n * width) (resumed (2 * n * pairs) (tailValue k n y tp tq) row)) 0 row
       → row′ ≡ rowOf (λ r. wholeValue k n width y pn pf qn qf tp tq) 0 xs
-  row-joined xs row row′ l er er′ =
+  joined xs row row′ l er er′ =
       is-overlay (λ x old. wholeValue k n width y pn pf qn qf tp tq x) xs row′ (ap length er′ ∙ overlay-length _ 0 row ∙ lr)
       (λ x b. rw er′ (overlay-at _ row x (rw lr b) ∙ rw (lt-ltb x (n * width) (rw l at b)) (at-place x b (below-or-not x (2 * n * pairs)))))
     where
@@ -178,6 +178,15 @@ module _ (k : Kernel) (n width : ℕ) (some : 0 < n) (y pn pf qn qf : List ℕ) 
       at-place x b (inl lo) = rw (lt-ltb x (2 * n * pairs) lo, er) (overlay-at _ xs x b ∙ rw (lt-ltb x (2 * n * pairs) lo) (of-pairs x lo))
       at-place x b (inr hi) = rw (le-ltb x (2 * n * pairs) hi) (of-tail x hi)
 
+-- the row after the pairs, and then after the tail, is the whole row
+pub row-joined : (k : Kernel) (tp tq : ℕ) {n width : ℕ} {y pn pf qn qf xs row row′ : List ℕ} → 0 < n → RowFits n xs y pn pf qn qf width
+    → row ≡ overlay (upTo (2 * n * (chromaWidth width - 1)) (pairsValue k n y pn pf qn qf)) 0 xs
+    → row′ ≡ overlay (upTo (n * width) (resumed (n * (2 * (chromaWidth width - 1))) (tailValue k n y tp tq) row)) 0 row
+    → row′ ≡ rowOf (λ r. wholeValue k n width y pn pf qn qf tp tq) 0 xs
+row-joined k tp tq {n} {width} {y} {pn} {pf} {qn} {qf} {xs} {row} {row′} some fits er er′ =
+    let e : n * (2 * (chromaWidth width - 1)) ≡ 2 * n * (chromaWidth width - 1) = omega arith in
+    joined k n width some y pn pf qn qf tp tq xs row row′ (fits .places) er (rw e at er′)
+
 -- ---- the stores of a pair, one pixel after the other
 
 sets-append : (vs ws l : List ℕ) (i : ℕ) → sets (sets l i vs) (i + length vs) ws ≡ sets l i (vs ++ ws)
@@ -187,5 +196,22 @@ sets-append (v ∷ vs) ws l i =
     rw e (sets-append vs ws (set l i v) (suc i))
 
 -- the letters a and b of two pixels, stored one after the other
-pub stored-twice : (row row′ row″ a b : List ℕ) (i n : ℕ) → length a ≡ n → row′ ≡ sets row i a → row″ ≡ sets row′ (i + n) b → row″ ≡ sets row i (a ++ b)
+stored-twice : (row row′ row″ a b : List ℕ) (i n : ℕ) → length a ≡ n → row′ ≡ sets row i a → row″ ≡ sets row′ (i + n) b → row″ ≡ sets row i (a ++ b)
 stored-twice row row′ row″ a b i n l e e′ = e′ ∙ rw (e, ← l) (sets-append a b row i)
+
+module _ (k : Kernel) (y pn pf qn qf : List ℕ) (j : ℕ) (row : List ℕ) {row′ row″ : List ℕ} where
+  pub pair-stored3 : row′ ≡ sets row (6 * j) (three k (at y (2 * j)) (leftOf pn pf j) (leftOf qn qf j))
+      → row″ ≡ sets row′ (6 * j + 3) (three k (at y (2 * j + 1)) (rightOf pn pf j) (rightOf qn qf j)) → row″ ≡ sets row (6 * j) (pair3 k y pn pf qn qf j)
+  pair-stored3 =
+      stored-twice row row′ row″ (three k (at y (2 * j)) (leftOf pn pf j) (leftOf qn qf j)) (three k (at y (2 * j + 1)) (rightOf pn pf j) (rightOf qn qf j))
+      (6 * j) 3 refl
+
+  pub pair-stored4 : row′ ≡ sets row (8 * j) (four k (at y (2 * j)) (leftOf pn pf j) (leftOf qn qf j))
+      → row″ ≡ sets row′ (8 * j + 4) (four k (at y (2 * j + 1)) (rightOf pn pf j) (rightOf qn qf j)) → row″ ≡ sets row (8 * j) (pair4 k y pn pf qn qf j)
+  pair-stored4 =
+      stored-twice row row′ row″ (four k (at y (2 * j)) (leftOf pn pf j) (leftOf qn qf j)) (four k (at y (2 * j + 1)) (rightOf pn pf j) (rightOf qn qf j))
+      (8 * j) 4 refl
+
+-- the places after the first, as `sets` counts them
+pub add-three : (i : ℕ) → i + 3 ≡ suc (suc (suc i))
+add-three i = omega arith

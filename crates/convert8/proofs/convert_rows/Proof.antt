@@ -1,14 +1,12 @@
 -- `convert8::convert_rows` meets its contract. The loop is that of `RowsDone`.
 -- Assumes nothing.
 use borrow.Author.Needs.{needs}
-use mathlib.Core.Path.{_≡_, refl, _∙_}
-use Prim.Native.Nat.{_+_, _-_, _*_, _≤_, _<_}
+use mathlib.Core.Path.{refl, _∙_}
+use Prim.Native.Nat.{_-_, _<_}
 use native.Mathlib.Omega.{arith}
-use lib.ListN.{length}
 use Rattle.yuv_support.specs.Blend.{frameOf}
-use Rattle.yuv_support.specs.Picture.{channelsOf, elementOf, band}
-use Rattle.yuv_support.proofs.Rows.{row-fits, row-length}
-use Rattle.kernel.proofs.Loops.{RowsDone, rows-begin, rows-next, rows-end}
+use Rattle.yuv_support.specs.Picture.{elementOf, band}
+use Rattle.kernel.proofs.Loops.{RowsDone, rows-begin, next-length, rows-next, rows-end}
 use Rattle.convert8.proofs.convert_rows.Statement.{statement}
 use Rattle.convert8.proofs.convert_rows.Tie as tie
 
@@ -29,25 +27,18 @@ add-end : tie.Need-add-end Inv-loop μ-loop
 add-end c = omega (arith, c .before .before .before .before .before .pre .1 .0, c .before .before .before .before .before .pre .0 .1 .height-most)
 
 loop-holds : tie.Need-loop-holds Inv-loop μ-loop
-loop-holds c = rows-begin (elementOf (c .before .before .before .before .before .args .s) (frameOf (c .before .before .before .before .before .args .image) (c .before .before .before .before .before .args .y .now) (c .before .before .before .before .before .args .u .now) (c .before .before .before .before .before .args .v .now))) (c .before .before .before .before .before .args .rgb-stride) (c .row-length .result) (c .before .before .before .before .before .args .first) (c .before .before .before .before .before .args .first + c .before .before .before .before .before .args .count) (c .before .before .before .before .before .args .rgb .now) (omega arith)
+loop-holds c =
+    let start = c .before .before .before .before .before in
+    rows-begin (start .args .image .height) (c .row-length .ensures) (omega arith) (start .pre .1 .1) (start .pre .1 .2) (start .pre .1 .0)
 
 cast-at : tie.Need-cast-at Inv-loop μ-loop
 cast-at c = search needs
 
--- the row of this turn lies inside the destination
-fits : (c : tie.In-loop Inv-loop μ-loop) → c .before .before .before .before .before .before .before .args .rgb-stride * c .before .loop .r + c .before .before .row-length .result ≤ length (c .before .before .before .before .before .before .before .args .rgb .now)
-fits c =
-    let a = c .before .before .before .before .before .before .before .args in
-    let l = c .before .loop in
-    let h : l .r < a .image .height = omega (arith, c .before .before .before .before .before .before .before .pre .1 .0) in
-    rw (c .before .before .row-length .ensures)
-    (row-fits (a .rgb-stride) (a .image .width * channelsOf (a .s .order)) (a .image .height) (l .r) (length (a .rgb .now)) (c .before .before .before .before .before .before .before .pre .1 .2) h)
-
 mul-at : tie.Need-mul-at Inv-loop μ-loop
-mul-at c = omega (arith, fits c, c .before .before .before .before .before .before .before .good .0 .0)
+mul-at c = omega (arith, c .before .loop .inv .room (c .before .loop .r) (c .loop-test .taken), c .before .before .before .before .before .before .before .good .0 .0)
 
 add-convert-row : tie.Need-add-convert-row Inv-loop μ-loop
-add-convert-row c = omega (arith, fits c, c .before .before .before .before .before .before .before .good .0 .0)
+add-convert-row c = omega (arith, c .before .loop .inv .room (c .before .loop .r) (c .loop-test .taken), c .before .before .before .before .before .before .before .good .0 .0)
 
 sub-convert-row : tie.Need-sub-convert-row Inv-loop μ-loop
 sub-convert-row c = omega arith
@@ -56,15 +47,13 @@ part-convert-row-start : tie.Need-part-convert-row-start Inv-loop μ-loop
 part-convert-row-start c = omega arith
 
 part-convert-row-end : tie.Need-part-convert-row-end Inv-loop μ-loop
-part-convert-row-end c = omega (arith, fits c, c .before .loop .inv .same)
+part-convert-row-end c = omega (arith, c .before .loop .inv .room (c .before .loop .r) (c .loop-test .taken), c .before .loop .inv .same)
 
 convert-row-requires : tie.Need-convert-row-requires Inv-loop μ-loop
 convert-row-requires c κs =
-    let a = c .before .before .before .before .before .before .before .before .args in
-    let l = c .before .before .loop in
-    let n = c .before .before .before .row-length in
-    let h : l .r < a .image .height = omega (arith, c .before .before .before .before .before .before .before .before .pre .1 .0, c .before .loop-test .taken) in
-    (c .before .before .before .before .before .before .before .before .pre .0, (h, row-length (a .rgb-stride) (n .result) (l .r) (l .rgb) (rw (l .inv .same) (fits (c .before))) ∙ n .ensures))
+    let start = c .before .before .before .before .before .before .before .before in
+    let h : c .before .before .loop .r < start .args .image .height = omega (arith, start .pre .1 .0, c .before .loop-test .taken) in
+    (start .pre .0, (h, next-length (c .before .before .loop .inv) (c .before .loop-test .taken) ∙ c .before .before .before .row-length .ensures))
 
 add-r : tie.Need-add-r Inv-loop μ-loop
 add-r c = omega arith
@@ -73,21 +62,14 @@ loop-less : tie.Need-loop-less Inv-loop μ-loop
 loop-less c = omega arith
 
 loop-again : tie.Need-loop-again Inv-loop μ-loop
-loop-again c =
-    let a = c .before .before .before .before .before .before .before .before .before .before .before .args in
-    let n = c .before .before .before .before .before .before .row-length in
-    rows-next (elementOf (c .before .before .before .before .before .before .before .before .before .before .before .args .s) (frameOf (c .before .before .before .before .before .before .before .before .before .before .before .args .image) (c .before .before .before .before .before .before .before .before .before .before .before .args .y .now) (c .before .before .before .before .before .before .before .before .before .before .before .args .u .now) (c .before .before .before .before .before .before .before .before .before .before .before .args .v .now))) (a .rgb-stride) (n .result) (a .first) (a .first + a .count) (a .rgb .now)
-    (rw (n .ensures) (c .before .before .before .before .before .before .before .before .before .before .before .pre .1 .1)) (fits (c .before .before .before .before)) (c .before .before .before .before .before .loop .inv) (c .before .before .before .before .loop-test .taken) (c .before .before .convert-row .ensures)
+loop-again c = rows-next (c .before .before .before .before .before .loop .inv) (c .before .before .before .before .loop-test .taken) (c .before .before .convert-row .ensures)
 
 same-length : tie.Need-same-length Inv-loop μ-loop
 same-length c = c .before .loop .inv .same
 
 returns : tie.Need-returns Inv-loop μ-loop
 unfolding band
-returns c =
-    let a = c .before .before .before .before .before .before .before .args in
-    rows-end (elementOf (c .before .before .before .before .before .before .before .args .s) (frameOf (c .before .before .before .before .before .before .before .args .image) (c .before .before .before .before .before .before .before .args .y .now) (c .before .before .before .before .before .before .before .args .u .now) (c .before .before .before .before .before .before .before .args .v .now))) (a .rgb-stride) (c .before .before .row-length .result) (a .first) (a .first + a .count) (a .rgb .now) (a .count) refl (c .before .loop .inv) (c .loop-test .left)
-    ∙ rw (c .before .before .row-length .ensures)
+returns c = rows-end (c .before .before .before .before .before .before .before .args .count) (c .before .before .row-length .ensures) refl (c .before .loop .inv) (c .loop-test .left)
 
 pub convert-rows-spec : {M : Type 1} → statement M
 convert-rows-spec =

@@ -1,8 +1,7 @@
 -- `interpolate16::store3` meets its contract.
 -- Assumes nothing.
 use borrow.Author.Needs.{needs}
-use mathlib.Core.Path.{_≡_}
-use Prim.Native.Nat.{suc, _+_}
+use native.Mathlib.Numerals.{add-one, add-two}
 use native.Mathlib.Omega.{arith}
 use lib.ListN.{length-set}
 use Rattle.interpolate16.proofs.store3.Statement.{statement}
@@ -36,10 +35,7 @@ same-length : tie.Need-same-length
 same-length c = search needs
 
 returns : tie.Need-returns
-returns c =
-    let e1 : c .args .at + 1 ≡ suc (c .args .at) = omega arith in
-    let e2 : c .args .at + 2 ≡ suc (suc (c .args .at)) = omega arith in
-    rw (e1, e2)
+returns c = rw (add-one, add-two)
 
 pub store3-spec : {M : Type 1} → statement M
 store3-spec =

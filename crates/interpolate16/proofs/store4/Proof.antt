@@ -1,10 +1,10 @@
 -- `interpolate16::store4` meets its contract.
 -- Assumes nothing.
 use borrow.Author.Needs.{needs}
-use mathlib.Core.Path.{_≡_}
-use Prim.Native.Nat.{suc, _+_}
+use native.Mathlib.Numerals.{add-one, add-two}
 use native.Mathlib.Omega.{arith}
 use lib.ListN.{length-set}
+use Rattle.numerics.proofs.Row.{add-three}
 use Rattle.interpolate16.proofs.store4.Statement.{statement}
 use Rattle.interpolate16.proofs.store4.Tie as tie
 
@@ -45,11 +45,7 @@ same-length : tie.Need-same-length
 same-length c = search needs
 
 returns : tie.Need-returns
-returns c =
-    let e1 : c .args .at + 1 ≡ suc (c .args .at) = omega arith in
-    let e2 : c .args .at + 2 ≡ suc (suc (c .args .at)) = omega arith in
-    let e3 : c .args .at + 3 ≡ suc (suc (suc (c .args .at))) = omega arith in
-    rw (e1, e2, e3)
+returns c = rw (add-one, add-two, add-three)
 
 pub store4-spec : {M : Type 1} → statement M
 store4-spec =

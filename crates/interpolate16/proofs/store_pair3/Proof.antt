@@ -1,12 +1,10 @@
 -- `interpolate16::store_pair3` meets its contract.
 -- Assumes nothing.
 use borrow.Author.Needs.{needs}
-use mathlib.Core.Path.{_≡_, refl, _∙_}
-use Prim.Native.Nat.{_+_, _*_}
+use mathlib.Core.Path.{_∙_}
 use native.Mathlib.Omega.{arith}
 use lib.ListN.{length-set}
-use Rattle.numerics.specs.Row.{at, leftOf, rightOf, three}
-use Rattle.numerics.proofs.Row.{stored-twice}
+use Rattle.numerics.proofs.Row.{pair-stored3}
 use Rattle.interpolate16.proofs.store_pair3.Statement.{statement}
 use Rattle.interpolate16.proofs.store_pair3.Tie as tie
 
@@ -63,10 +61,7 @@ returns c =
     let a = c .before .before .before .before .before .before .before .before .before .before .before .before .before .before .before .before .before .before .before .before .args in
     let p = c .before .before .before .before .before .before .before .before .before .before .before .before .before .pair-chroma .ensures in
     let q = c .before .before .before .before .before .before .before .before .before .before .before .before .pair-chroma2 .ensures in
-    stored-twice (a .row .now) (c .before .before .before .before .before .before .store3 .last .0) (c .before .before .store32 .last .0)
-    (three (a .k) (at (a .y .now) (2 * a .j)) (leftOf (a .pn .now) (a .pf .now) (a .j)) (leftOf (a .qn .now) (a .qf .now) (a .j)))
-    (three (a .k) (at (a .y .now) (2 * a .j + 1)) (rightOf (a .pn .now) (a .pf .now) (a .j)) (rightOf (a .qn .now) (a .qf .now) (a .j)))
-    (6 * a .j) 3 refl
+    pair-stored3 (a .k) (a .y .now) (a .pn .now) (a .pf .now) (a .qn .now) (a .qf .now) (a .j) (a .row .now)
     (c .before .before .before .before .before .before .store3 .ensures ∙ rw (c .before .before .before .before .before .before .before .before .before .before .pixel16 .ensures, p, q))
     (c .before .before .store32 .ensures ∙ rw (c .before .before .before .before .before .before .before .before .pixel162 .ensures, p, q))
 

@@ -1,12 +1,10 @@
 -- `interpolate16::store_pair4` meets its contract.
 -- Assumes nothing.
 use borrow.Author.Needs.{needs}
-use mathlib.Core.Path.{_≡_, refl, _∙_}
-use Prim.Native.Nat.{_+_, _*_}
+use mathlib.Core.Path.{_∙_}
 use native.Mathlib.Omega.{arith}
 use lib.ListN.{length-set}
-use Rattle.numerics.specs.Row.{at, leftOf, rightOf, four}
-use Rattle.numerics.proofs.Row.{stored-twice}
+use Rattle.numerics.proofs.Row.{pair-stored4}
 use Rattle.interpolate16.proofs.store_pair4.Statement.{statement}
 use Rattle.interpolate16.proofs.store_pair4.Tie as tie
 
@@ -63,10 +61,7 @@ returns c =
     let a = c .before .before .before .before .before .before .before .before .before .before .before .before .before .before .before .before .before .before .before .before .args in
     let p = c .before .before .before .before .before .before .before .before .before .before .before .before .before .pair-chroma .ensures in
     let q = c .before .before .before .before .before .before .before .before .before .before .before .before .pair-chroma2 .ensures in
-    stored-twice (a .row .now) (c .before .before .before .before .before .before .store4 .last .0) (c .before .before .store42 .last .0)
-    (four (a .k) (at (a .y .now) (2 * a .j)) (leftOf (a .pn .now) (a .pf .now) (a .j)) (leftOf (a .qn .now) (a .qf .now) (a .j)))
-    (four (a .k) (at (a .y .now) (2 * a .j + 1)) (rightOf (a .pn .now) (a .pf .now) (a .j)) (rightOf (a .qn .now) (a .qf .now) (a .j)))
-    (8 * a .j) 4 refl
+    pair-stored4 (a .k) (a .y .now) (a .pn .now) (a .pf .now) (a .qn .now) (a .qf .now) (a .j) (a .row .now)
     (c .before .before .before .before .before .before .store4 .ensures ∙ rw (c .before .before .before .before .before .before .before .before .before .before .pixel16 .ensures, p, q))
     (c .before .before .store42 .ensures ∙ rw (c .before .before .before .before .before .before .before .before .pixel162 .ensures, p, q))
 

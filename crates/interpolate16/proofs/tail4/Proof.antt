@@ -14,7 +14,7 @@ abbrev μ-loop : tie.MeasureT-loop
 μ-loop row₀ y from width p q k c₀ row c = width - c
 
 loop-holds : tie.Need-loop-holds Inv-loop μ-loop
-loop-holds c = tail-begin (c .before .before .args .k) 4 (c .before .before .args .y .now) (c .before .before .args .p) (c .before .before .args .q) (c .before .before .args .from) (c .before .before .args .width) (c .before .before .args .row .now) (c .before .before .pre .1)
+loop-holds c = tail-begin (c .before .before .pre .1)
 
 mul-pixel16 : tie.Need-mul-pixel16 Inv-loop μ-loop
 mul-pixel16 c = omega (arith, c .before .before .before .before .pre .3, c .loop-test .taken, c .before .before .before .before .good .1 .0 .1)
@@ -39,13 +39,13 @@ loop-less c = omega arith
 
 loop-again : tie.Need-loop-again Inv-loop μ-loop
 loop-again c =
-    tail-next4 (c .before .before .before .before .before .before .before .before .before .before .args .k) (c .before .before .before .before .before .before .before .before .before .before .args .y .now) (c .before .before .before .before .before .before .before .before .before .before .args .p) (c .before .before .before .before .before .before .before .before .before .before .args .q) (c .before .before .before .before .before .before .before .before .before .before .args .from) (c .before .before .before .before .before .before .before .before .before .before .args .width) (c .before .before .before .before .before .before .before .before .before .before .args .row .now) (c .before .before .before .before .before .before .before .before .before .before .pre .2) (c .before .before .before .before .before .before .before .loop .inv) (c .before .before .before .before .before .before .loop-test .taken) (c .before .before .store4 .ensures ∙ rw (c .before .before .before .before .pixel16 .ensures))
+    tail-next4 (c .before .before .before .before .before .before .before .before .before .before .pre .2) (c .before .before .before .before .before .before .before .loop .inv) (c .before .before .before .before .before .before .loop-test .taken) (c .before .before .store4 .ensures ∙ rw (c .before .before .before .before .pixel16 .ensures))
 
 same-length : tie.Need-same-length Inv-loop μ-loop
 same-length c = c .before .loop .inv .same
 
 returns : tie.Need-returns Inv-loop μ-loop
-returns c = tail-end (c .before .before .before .before .args .k) 4 (c .before .before .before .before .args .y .now) (c .before .before .before .before .args .p) (c .before .before .before .before .args .q) (c .before .before .before .before .args .from) (c .before .before .before .before .args .width) (c .before .before .before .before .args .row .now) (c .before .loop .inv) (c .loop-test .left)
+returns c = tail-end (c .before .loop .inv) (c .loop-test .left)
 
 pub tail4-spec : {M : Type 1} → statement M
 tail4-spec =
