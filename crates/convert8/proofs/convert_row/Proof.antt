@@ -11,19 +11,19 @@ chroma-rows-requires : tie.Need-chroma-rows-requires
 chroma-rows-requires c κs = search needs
 
 row8-requires : tie.Need-row8-requires
-row8-requires c κs = parts-in (c .before .before .before .before .before .pre .0 .1) (c .before .before .before .before .before .args .r) (c .before .before .before .before .before .pre .1 .0) (c .chroma-rows .ensures) .y
+row8-requires c κs = search (needs, parts-in (c .before .before .before .before .before .pre .0 .1) (c .before .before .before .before .before .args .r) (c .before .before .before .before .before .pre .1 .0) (c .chroma-rows .ensures))
 
 row8-requires-2 : tie.Need-row8-requires-2
-row8-requires-2 c κs = parts-in (c .before .before .before .before .before .before .pre .0 .1) (c .before .before .before .before .before .before .args .r) (c .before .before .before .before .before .before .pre .1 .0) (c .before .chroma-rows .ensures) .u-near
+row8-requires-2 c κs = search (needs, parts-in (c .before .before .before .before .before .before .pre .0 .1) (c .before .before .before .before .before .before .args .r) (c .before .before .before .before .before .before .pre .1 .0) (c .before .chroma-rows .ensures))
 
 row8-requires-3 : tie.Need-row8-requires-3
-row8-requires-3 c κs = parts-in (c .before .before .before .before .before .before .before .pre .0 .1) (c .before .before .before .before .before .before .before .args .r) (c .before .before .before .before .before .before .before .pre .1 .0) (c .before .before .chroma-rows .ensures) .u-other
+row8-requires-3 c κs = search (needs, parts-in (c .before .before .before .before .before .before .before .pre .0 .1) (c .before .before .before .before .before .before .before .args .r) (c .before .before .before .before .before .before .before .pre .1 .0) (c .before .before .chroma-rows .ensures))
 
 row8-requires-4 : tie.Need-row8-requires-4
-row8-requires-4 c κs = parts-in (c .before .before .before .before .before .before .before .before .pre .0 .1) (c .before .before .before .before .before .before .before .before .args .r) (c .before .before .before .before .before .before .before .before .pre .1 .0) (c .before .before .before .chroma-rows .ensures) .v-near
+row8-requires-4 c κs = search (needs, parts-in (c .before .before .before .before .before .before .before .before .pre .0 .1) (c .before .before .before .before .before .before .before .before .args .r) (c .before .before .before .before .before .before .before .before .pre .1 .0) (c .before .before .before .chroma-rows .ensures))
 
 row8-requires-5 : tie.Need-row8-requires-5
-row8-requires-5 c κs = parts-in (c .before .before .before .before .before .before .before .before .before .pre .0 .1) (c .before .before .before .before .before .before .before .before .before .args .r) (c .before .before .before .before .before .before .before .before .before .pre .1 .0) (c .before .before .before .before .chroma-rows .ensures) .v-other
+row8-requires-5 c κs = search (needs, parts-in (c .before .before .before .before .before .before .before .before .before .pre .0 .1) (c .before .before .before .before .before .before .before .before .before .args .r) (c .before .before .before .before .before .before .before .before .before .pre .1 .0) (c .before .before .before .before .chroma-rows .ensures))
 
 cast-interpolate-row : tie.Need-cast-interpolate-row
 cast-interpolate-row c = search needs
