@@ -129,7 +129,7 @@ pub fn finished_row8<'a>(
 ) -> &'a [u8]
     ensures { λ r. ⌜ now r ≡ rowPart order width height (now (rgb .entry)) «rgb_stride» row ⌝ }
 {
-    let part = row_place(order, width, height, rgb.len() as u64, rgb_stride, row);
+    let part = finished_row_part8(order, width, height, rgb, rgb_stride, row);
     cut8(rgb, part)
 }
 
@@ -172,7 +172,7 @@ pub fn finished_row16<'a>(
 ) -> &'a [u16]
     ensures { λ r. ⌜ now r ≡ rowPart order width height (now (rgb .entry)) «rgb_stride» row ⌝ }
 {
-    let part = row_place(order, width, height, rgb.len() as u64, rgb_stride, row);
+    let part = finished_row_part16(order, width, height, rgb, rgb_stride, row);
     cut16(rgb, part)
 }
 
@@ -218,16 +218,14 @@ pub fn near_chroma_row8<'a>(
 ) -> &'a [u8]
     ensures { λ r. ⌜ now r ≡ chromaRowPart sampling plane width height (now (u .entry)) «u_stride» (now (v .entry)) «v_stride» row ⌝ }
 {
-    let u_length = u.len() as u64;
-    let v_length = v.len() as u64;
-    let part = chroma_row_place(
+    let part = near_chroma_row_part8(
         sampling,
         plane,
         width,
         height,
-        u_length,
+        u,
         u_stride,
-        v_length,
+        v,
         v_stride,
         row,
     );
@@ -309,16 +307,14 @@ pub fn near_chroma_row16<'a>(
 ) -> &'a [u16]
     ensures { λ r. ⌜ now r ≡ chromaRowPart sampling plane width height (now (u .entry)) «u_stride» (now (v .entry)) «v_stride» row ⌝ }
 {
-    let u_length = u.len() as u64;
-    let v_length = v.len() as u64;
-    let part = chroma_row_place(
+    let part = near_chroma_row_part16(
         sampling,
         plane,
         width,
         height,
-        u_length,
+        u,
         u_stride,
-        v_length,
+        v,
         v_stride,
         row,
     );

@@ -6,14 +6,14 @@ use Rattle.row_readers.proofs.Readers.{row-within, row-cut}
 use Rattle.row_readers.proofs.finished_row16.Statement.{statement}
 use Rattle.row_readers.proofs.finished_row16.Tie as tie
 
-row-place-requires : tie.Need-row-place-requires
-row-place-requires c κs = search needs
+finished-row-part16-requires : tie.Need-finished-row-part16-requires
+finished-row-part16-requires c κs = search needs
 
 cut16-requires : tie.Need-cut16-requires
-cut16-requires c κs = let a = c .before .before .args in row-within (a .order) (a .width) (a .height) (a .rgb .now) (a .rgb-stride) (a .row) _ (c .row-place .ensures)
+cut16-requires c κs = let a = c .before .before .args in row-within (a .order) (a .width) (a .height) (a .rgb .now) (a .rgb-stride) (a .row) _ (c .finished-row-part16 .ensures)
 
 returns : tie.Need-returns
-returns c = c .cut16 .ensures ∙ row-cut _ _ _ _ _ _ _ (c .before .row-place .ensures)
+returns c = c .cut16 .ensures ∙ row-cut _ _ _ _ _ _ _ (c .before .finished-row-part16 .ensures)
 
 pub finished-row16-spec : {M : Type 1} → statement M
-finished-row16-spec = tie.close (tie.spec row-place-requires cut16-requires returns)
+finished-row16-spec = tie.close (tie.spec finished-row-part16-requires cut16-requires returns)

@@ -6,14 +6,14 @@ use Rattle.row_readers.proofs.Readers.{row-within, row-cut}
 use Rattle.row_readers.proofs.finished_row8.Statement.{statement}
 use Rattle.row_readers.proofs.finished_row8.Tie as tie
 
-row-place-requires : tie.Need-row-place-requires
-row-place-requires c κs = search needs
+finished-row-part8-requires : tie.Need-finished-row-part8-requires
+finished-row-part8-requires c κs = search needs
 
 cut8-requires : tie.Need-cut8-requires
-cut8-requires c κs = let a = c .before .before .args in row-within (a .order) (a .width) (a .height) (a .rgb .now) (a .rgb-stride) (a .row) _ (c .row-place .ensures)
+cut8-requires c κs = let a = c .before .before .args in row-within (a .order) (a .width) (a .height) (a .rgb .now) (a .rgb-stride) (a .row) _ (c .finished-row-part8 .ensures)
 
 returns : tie.Need-returns
-returns c = c .cut8 .ensures ∙ row-cut _ _ _ _ _ _ _ (c .before .row-place .ensures)
+returns c = c .cut8 .ensures ∙ row-cut _ _ _ _ _ _ _ (c .before .finished-row-part8 .ensures)
 
 pub finished-row8-spec : {M : Type 1} → statement M
-finished-row8-spec = tie.close (tie.spec row-place-requires cut8-requires returns)
+finished-row8-spec = tie.close (tie.spec finished-row-part8-requires cut8-requires returns)
