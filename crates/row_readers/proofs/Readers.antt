@@ -117,14 +117,6 @@ module _ (sampling plane width height u-size u-stride v-size v-stride row : ℕ)
       by-code true = near-row-fits u-stride u-size (chroma-row-held .u-long)
       by-code false = near-row-fits v-stride v-size (chroma-row-held .v-long)
 
-  -- so its start fits wherever both lengths do
-  pub chroma-start-below : (bound : ℕ) → u-size < bound → v-size < bound → wanted plane u-stride v-stride * nearRow (samplingOf sampling) height row < bound
-  chroma-start-below bound hu hv = let f = chroma-row-fits in let l = by-code (eqb plane 0) in omega arith
-    where
-      by-code : (t : Bool) → cond t u-size v-size < bound
-      by-code true = hu
-      by-code false = hv
-
 length-of-wanted : (plane : ℕ) (u v : List ℕ) → wanted plane (length u) (length v) ≡ length (wanted plane u v)
 length-of-wanted plane u v = by-code (eqb plane 0)
   where

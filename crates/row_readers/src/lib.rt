@@ -61,7 +61,8 @@ fn row_place(order: u32, width: u32, height: u32, length: u64, stride: u32, row:
         return placed_at(answer, 0, 0);
     }
     let n = images::row_length(width, yuv_support::order_of(order));
-    placed_at(answer, stride as u64 * row as u64, n as u64)
+    let start = yuv_error::product(stride, row);
+    placed_at(answer, start, n as u64)
 }
 
 // Where the near chroma row lies in the plane wanted, the planes having `u_length` and `v_length` elements of any width.
@@ -95,7 +96,8 @@ fn chroma_row_place(
     let near = images::near_row(yuv_support::sampling_of(sampling), height, row);
     let stride = wanted_stride(plane, u_stride, v_stride);
     let columns = images::chroma_width(width);
-    placed_at(answer, stride as u64 * near as u64, columns as u64)
+    let start = yuv_error::product(stride, near);
+    placed_at(answer, start, columns as u64)
 }
 
 // The part of a buffer that starts where `part` says and is as long.

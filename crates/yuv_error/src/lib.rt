@@ -152,7 +152,8 @@ pub fn check_rgba_destination(length: u64, stride: u32, row: u32, height: u32) -
     YuvError::Accepted
 }
 
-fn product(a: u32, b: u32) -> u64
+// a·b, which fits 64 bits.
+pub fn product(a: u32, b: u32) -> u64
     ensures { λ r. ⌜ r ≡ a * b ⌝ }
 {
     a as u64 * b as u64

@@ -1,15 +1,13 @@
--- `row_readers::chroma_row_place` meets its contract. On a "no" nothing depends on start and length (`refused-place`); past the test the
--- near row is in the plane wanted, so that stride·near fits.
+-- `row_readers::chroma_row_place` meets its contract. On a "no" nothing depends on start and length (`refused-place`).
 -- Assumes nothing.
 use borrow.Author.Needs.{needs}
 use borrow.Author.Tests.{not-true, not-false}
 use mathlib.Core.Path.{_≡_, sym, _∙_}
-use Prim.Native.Nat.{_^_}
 use Rattle.yuv_support.specs.Questions.{extent}
 use Rattle.yuv_error.proofs.Answers.{accepted-number}
 use Rattle.row_readers.specs.Readers.{chromaRowAnswer, chromaRowPlace}
 use Rattle.row_readers.proofs.Parts.{refused-place}
-use Rattle.row_readers.proofs.Readers.{chroma-row-held, chroma-start-below}
+use Rattle.row_readers.proofs.Readers.{chroma-row-held}
 use Rattle.row_readers.proofs.chroma_row_place.Statement.{statement}
 use Rattle.row_readers.proofs.chroma_row_place.Tie as tie
 
@@ -45,24 +43,11 @@ wanted-stride-requires c κs = search needs
 chroma-width-requires : tie.Need-chroma-width-requires
 chroma-width-requires c κs = search needs
 
+product-requires : tie.Need-product-requires
+product-requires c κs = search needs
+
 cast-placed-at : tie.Need-cast-placed-at
 cast-placed-at c = search needs
-
-cast-placed-at-2 : tie.Need-cast-placed-at-2
-cast-placed-at-2 c = search needs
-
-mul-placed-at : tie.Need-mul-placed-at
-mul-placed-at c =
-    let a = c .before .before .before .before .before .before .before .args in
-    record {
-      fits =
-          rw (c .before .wanted-stride .ensures, c .before .before .near-row .ensures, c .before .before .before .sampling-of .ensures)
-          (chroma-start-below (a .sampling) (a .plane) (a .width) (a .height) (a .u-length) (a .u-stride) (a .v-length) (a .v-stride) (a .row)
-          (number (c .before .before .before .before)) (2 ^ 64) (search needs) (search needs));
-    }
-
-cast-placed-at-3 : tie.Need-cast-placed-at-3
-cast-placed-at-3 c = search needs
 
 placed-at-requires-2 : tie.Need-placed-at-requires-2
 placed-at-requires-2 c κs = search needs
@@ -71,7 +56,7 @@ returns-2 : tie.Need-returns-2
 unfolding chromaRowPlace
 returns-2 c =
     c .placed-at2 .ensures
-    ∙ rw (c .before .before .before .before .before .before .before .check-chroma-row .ensures, c .before .chroma-width .ensures, c .before .before .wanted-stride .ensures, c .before .before .before .near-row .ensures, c .before .before .before .before .sampling-of .ensures)
+    ∙ rw (c .before .before .before .before .before .before .before .before .check-chroma-row .ensures, c .before .product .ensures, c .before .before .chroma-width .ensures, c .before .before .before .wanted-stride .ensures, c .before .before .before .before .near-row .ensures, c .before .before .before .before .before .sampling-of .ensures)
 
 pub chroma-row-place-spec : {M : Type 1} → statement M
 chroma-row-place-spec =
@@ -85,9 +70,7 @@ chroma-row-place-spec =
     near-row-requires
     wanted-stride-requires
     chroma-width-requires
+    product-requires
     cast-placed-at
-    cast-placed-at-2
-    mul-placed-at
-    cast-placed-at-3
     placed-at-requires-2
     returns-2)

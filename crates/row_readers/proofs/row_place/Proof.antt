@@ -1,15 +1,13 @@
--- `row_readers::row_place` meets its contract. On a "no" nothing depends on start and length (`refused-place`); past the test the row is in
--- the destination, so that stride·row fits.
+-- `row_readers::row_place` meets its contract. On a "no" nothing depends on start and length (`refused-place`).
 -- Assumes nothing.
 use borrow.Author.Needs.{needs}
 use borrow.Author.Tests.{not-true, not-false}
 use mathlib.Core.Path.{_≡_, sym, _∙_}
-use native.Mathlib.Omega.{arith}
 use Rattle.yuv_support.specs.Questions.{extent}
 use Rattle.yuv_error.proofs.Answers.{accepted-number}
 use Rattle.row_readers.specs.Readers.{rowAnswer, rowPlace}
 use Rattle.row_readers.proofs.Parts.{refused-place}
-use Rattle.row_readers.proofs.Readers.{row-held, row-part-fits}
+use Rattle.row_readers.proofs.Readers.{row-held}
 use Rattle.row_readers.proofs.row_place.Statement.{statement}
 use Rattle.row_readers.proofs.row_place.Tie as tie
 
@@ -39,11 +37,8 @@ order-of-requires c κs = search needs
 row-length-requires : tie.Need-row-length-requires
 row-length-requires c κs = row-held _ _ _ _ _ _ (number (c .before)) .width-most
 
-mul-placed-at : tie.Need-mul-placed-at
-mul-placed-at c =
-    let a = c .before .before .before .before .before .args in
-    let f = row-part-fits (a .order) (a .width) (a .height) (a .length) (a .stride) (a .row) (number (c .before .before)) in
-    omega arith
+product-requires : tie.Need-product-requires
+product-requires c κs = search needs
 
 cast-placed-at : tie.Need-cast-placed-at
 cast-placed-at c = search needs
@@ -55,7 +50,7 @@ returns-2 : tie.Need-returns-2
 unfolding rowPlace
 returns-2 c =
     c .placed-at2 .ensures
-    ∙ rw (c .before .before .before .before .before .check-row .ensures, c .before .row-length .ensures, c .before .before .order-of .ensures)
+    ∙ rw (c .before .before .before .before .before .before .check-row .ensures, c .before .product .ensures, c .before .before .row-length .ensures, c .before .before .before .order-of .ensures)
 
 pub row-place-spec : {M : Type 1} → statement M
 row-place-spec =
@@ -67,7 +62,7 @@ row-place-spec =
     returns
     order-of-requires
     row-length-requires
-    mul-placed-at
+    product-requires
     cast-placed-at
     placed-at-requires-2
     returns-2)
