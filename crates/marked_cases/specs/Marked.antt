@@ -18,10 +18,10 @@ use Rattle.yuv_support.specs.Settings.{depths8, biasC}
 use Rattle.yuv_support.specs.Coefficients.{coefficientsOf}
 use Rattle.yuv_support.specs.Blend.{Chroma, Cb, Cr, one, two, left, right, tail, sixteenths, rounded, chromaWidth, chromaHeight}
 use Rattle.yuv_support.specs.Component.{R, G, B, componentOf}
-use Rattle.yuv_support.specs.Questions.{Verdict, accepted, verdict, Request, extent, conversionQuestions}
+use Rattle.yuv_support.specs.Questions.{Verdict, accepted, refused, verdict, Request, extent, conversionQuestions}
 use Rattle.sheet_text.specs.Sheet.{sheetOf}
 use Rattle.sheet_text.proofs.Examples.{markedInput, markedOutput}
-use Rattle.settings_used.specs.Used.{ofNumber, refusal, settingsUsedOf}
+use Rattle.settings_used.specs.Used.{refusal, settingsUsedOf}
 
 -- the settings of a depth, a range and a matrix; sampling and order have no part in a component
 abbrev pub setting : ℕ → YuvRange → YuvStandardMatrix → Settings
@@ -55,7 +55,7 @@ AtEachDepth P = P 8 × P 10 × P 12
 
 -- Custom with both weights k gets number 13 at depth d, in either range
 abbrev pub Number13 : Float → ℕ → Type 0
-Number13 k d = (settingsUsedOf d 0 6 k k ≡ refusal (ofNumber 13)) × (settingsUsedOf d 1 6 k k ≡ refusal (ofNumber 13))
+Number13 k d = (settingsUsedOf d 0 6 k k ≡ refusal (refused 13)) × (settingsUsedOf d 1 6 k k ≡ refusal (refused 13))
 
 -- ---- a conversion
 
@@ -123,10 +123,10 @@ pub record Marked : Type 0 where
       AtEachDepth (λ d. coefficientsOf d Full (Custom (tenths 0) (tenths 0)) ≡ five 8192 16384 16384 0 0)
       × AtEachDepth (Number13 (tenths 4))
       × AtEachDepth (Number13 (tenths 5))
-      × (verdictOn (codes 6 (tenths 4)) 2 2 ≡ ofNumber 13)
-      × (verdictOn (codes 6 (tenths 5)) 2 2 ≡ ofNumber 13)
+      × (verdictOn (codes 6 (tenths 4)) 2 2 ≡ refused 13)
+      × (verdictOn (codes 6 (tenths 5)) 2 2 ≡ refused 13)
   -- "Sides 16,384 pass question 4; 16,385 do not"
   pub largest-sides :
       (verdictOn (codes 0 (tenths 0)) 16384 16384 ≡ accepted)
-      × (verdictOn (codes 0 (tenths 0)) 16385 16384 ≡ ofNumber 4)
-      × (verdictOn (codes 0 (tenths 0)) 16384 16385 ≡ ofNumber 4)
+      × (verdictOn (codes 0 (tenths 0)) 16385 16384 ≡ refused 4)
+      × (verdictOn (codes 0 (tenths 0)) 16384 16385 ≡ refused 4)

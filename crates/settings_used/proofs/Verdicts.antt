@@ -7,19 +7,19 @@ use lib.Dec.{leb}
 use lib.Ieee.{Float}
 use Rattle.yuv_support.specs.Settings.{rangeOf, matrixOf, among, depths}
 use Rattle.yuv_support.specs.Coefficients.{coefficientsOf, usable}
-use Rattle.yuv_support.specs.Questions.{accepted, verdict, settingsQuestions}
-use Rattle.settings_used.specs.Used.{ofNumber, refusal, answer, settingsUsedOf}
+use Rattle.yuv_support.specs.Questions.{accepted, refused, verdict, settingsQuestions}
+use Rattle.settings_used.specs.Used.{refusal, answer, settingsUsedOf}
 
 -- question 2 for the depth, the range and the matrix
 abbrev pub settingKnown : ℕ → ℕ → ℕ → Bool
 settingKnown d r m = leb r 1 && (leb m 6 && among d depths)
 
 module _ (d r m : ℕ) (kr kb : Float) where
-  pub unknown : settingKnown d r m ≡ false → refusal (ofNumber 2) ≡ settingsUsedOf d r m kr kb
+  pub unknown : settingKnown d r m ≡ false → refusal (refused 2) ≡ settingsUsedOf d r m kr kb
   unfolding settingsUsedOf settingsQuestions verdict
   unknown e = rw e
 
-  pub unusable : settingKnown d r m ≡ true → usable d (rangeOf r) (matrixOf m kr kb) ≡ false → refusal (ofNumber 13) ≡ settingsUsedOf d r m kr kb
+  pub unusable : settingKnown d r m ≡ true → usable d (rangeOf r) (matrixOf m kr kb) ≡ false → refusal (refused 13) ≡ settingsUsedOf d r m kr kb
   unfolding settingsUsedOf settingsQuestions verdict
   unusable e u = rw (e, u)
 

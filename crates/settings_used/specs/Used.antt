@@ -11,10 +11,6 @@ use Rattle.yuv_support.specs.Coefficients.{coefficientsOf}
 use Rattle.yuv_support.specs.Questions.{Verdict, verdict, settingsQuestions}
 use Rattle.settings_used.specs.declared.SettingsUsed.{SettingsUsed}
 
--- the verdict of a "no" that names nothing
-abbrev pub ofNumber : ℕ → Verdict
-ofNumber n = record { number = n; expected = 0; received = 0 }
-
 -- a "no": the verdict, and all eight values 0
 abbrev pub refusal : Verdict → SettingsUsed
 refusal v = record {

@@ -3,8 +3,8 @@
 ghost use mathlib.Core.Path.{_≡_};
 ghost use lib.Dec.{T};
 ghost use Rattle.yuv_support.specs.Settings.{among, depths};
-ghost use Rattle.yuv_support.specs.Questions.{accepted};
-ghost use Rattle.settings_used.specs.Used.{ofNumber, refusal, answer, settingsUsedOf};
+ghost use Rattle.yuv_support.specs.Questions.{accepted, refused};
+ghost use Rattle.settings_used.specs.Used.{refusal, answer, settingsUsedOf};
 use yuv_support::CbCrInverseTransform;
 use yuv_support::YuvRange;
 
@@ -26,7 +26,7 @@ pub struct SettingsUsed {
 
 // The answer to a "no" of the question with this number.
 fn refused(number: u64) -> SettingsUsed
-    ensures { λ r. ⌜ r ≡ refusal (ofNumber number) ⌝ }
+    ensures { λ r. ⌜ r ≡ refusal (refused number) ⌝ }
 {
     SettingsUsed {
         number,

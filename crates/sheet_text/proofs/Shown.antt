@@ -26,8 +26,8 @@ use Rattle.sheet_text.proofs.Converted.{rgb-room}
 
 -- ---- room
 
-pub pixel-room : (p : Places) (row column : ℕ) → Small p → row < p .height → column < p .width → p .stride * row + p .channels * column + 3 ≤ 16384
-pixel-room p row column small hr hc =
+pub pixel-room : {p : Places} {row column : ℕ} → Small p → row < p .height → column < p .width → p .stride * row + p .channels * column + 3 ≤ 16384
+pixel-room {p} {row} {column} small hr hc =
     let m : p .channels * suc column ≤ p .channels * p .width = mul-le-mul-left (p .channels) hc in
     let e = mul-suc (p .channels) column in
     omega (arith, small .room row hr, small .letters)

@@ -1,7 +1,7 @@
 -- Number, expected and received of each answer, as document 01 numbers the questions.
 -- Definitions only.
 use Prim.Native.Nat.{ℕ, _+_}
-use Rattle.yuv_support.specs.Questions.{Verdict, accepted}
+use Rattle.yuv_support.specs.Questions.{Verdict, accepted, refused}
 use Rattle.yuv_error.specs.declared.MismatchedSize.{MismatchedSize}
 use Rattle.yuv_error.specs.declared.YuvError.{YuvError}
 use Rattle.yuv_error.specs.declared.YuvError.the-variants.{
@@ -25,10 +25,7 @@ use Rattle.yuv_error.specs.declared.Told.{Told}
 use Rattle.yuv_error.specs.declared.PlaneFault.{PlaneFault}
 use Rattle.yuv_error.specs.declared.PlaneFault.the-variants.{Nothing, Stride, Length}
 
--- a "no" that names no sizes, and one that does
-abbrev pub refused : ℕ → Verdict
-refused number = record { number = number; expected = 0; received = 0 }
-
+-- a "no" that names the sizes
 abbrev pub mismatched : ℕ → MismatchedSize → Verdict
 mismatched number size = record { number = number; expected = size .expected; received = size .received }
 

@@ -30,6 +30,10 @@ pub record Verdict : Type 0 where
 abbrev pub accepted : Verdict
 accepted = record { number = 0; expected = 0; received = 0 }
 
+-- a "no" that names no sizes
+abbrev pub refused : ℕ → Verdict
+refused number = record { number = number; expected = 0; received = 0 }
+
 -- the first "no", else 0, 0, 0
 unfoldable pub verdict : List Question → Verdict
 verdict [] = accepted

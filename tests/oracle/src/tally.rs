@@ -4,7 +4,7 @@ use std::process::ExitCode;
 #[derive(Default)]
 pub struct Tally {
     pub calls: u64,
-    by_number: [u64; 15],
+    by_number: [u64; 16],
     different: u64,
     smallest: Vec<(usize, String)>,
 }
@@ -13,7 +13,7 @@ impl Tally {
     /// Counts a call that was answered with `number`.
     pub fn count(&mut self, number: u64) {
         self.calls += 1;
-        self.by_number[number.min(14) as usize] += 1;
+        self.by_number[number as usize] += 1;
     }
 
     /// Counts a difference, on an input of `size` samples.

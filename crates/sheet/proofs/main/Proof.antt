@@ -1,3 +1,5 @@
+-- `sheet::main` meets its contract.
+-- Assumes nothing.
 use mathlib.Core.Path.{sym}
 use Prim.Native.Nat.{ℕ}
 use lib.ListN.{length-replicate}
@@ -6,48 +8,34 @@ use Rattle.sheet_text.proofs.Lengths.{sheet-fits}
 use borrow.Author.Needs.{needs}
 use Rattle.sheet.proofs.main.Statement.{statement}
 use Rattle.sheet.proofs.main.Tie as tie
-use Rattle.sheet.proofs.main.Reads as reads
-use Rattle.sheet.proofs.main.Lts as lts
-use Rattle.io.proofs.read_full.Reads as read-full-reads
-use Rattle.io.proofs.write_all.Reads as write-all-reads
-use Rattle.sheet_text.proofs.sheet_text.Reads as sheet-text-reads
 
--- src/main.rt:9:41
 slice-aggregate-read-full : tie.Need-slice-aggregate-read-full
 slice-aggregate-read-full c = search needs
 
--- src/main.rt:9:9
 read-full-requires : tie.Need-read-full-requires
 read-full-requires c κs = search needs
 
--- src/main.rt:10:36
 array-share-prefix-input : tie.Need-array-share-prefix-input
 array-share-prefix-input c = search needs
 
--- src/main.rt:10:36
 slice-aggregate-sheet-text : tie.Need-slice-aggregate-sheet-text
 slice-aggregate-sheet-text c = search needs
 
--- src/main.rt:10:9
 sheet-text-requires : tie.Need-sheet-text-requires
 sheet-text-requires c κs = search needs
 
--- src/main.rt:11:34
 array-share-prefix-output : tie.Need-array-share-prefix-output
 array-share-prefix-output c = sheet-fits _ _ _ _ (c .sheet-text .ensures .0) (c .sheet-text .ensures .1) (length-replicate {A = ℕ} 131072 0)
 
--- src/main.rt:11:34
 slice-aggregate-write-all : tie.Need-slice-aggregate-write-all
 slice-aggregate-write-all c =
     sym
     (length-take-le (c .before .sheet-text .result) (c .before .sheet-text .last .1 .0)
     (sheet-fits _ _ _ _ (c .before .sheet-text .ensures .0) (c .before .sheet-text .ensures .1) (length-replicate {A = ℕ} 131072 0)))
 
--- src/main.rt:11:5
 write-all-requires : tie.Need-write-all-requires
 write-all-requires c κs = search needs
 
--- src/main.rt:6:1
 returns : tie.Need-returns
 returns c = search needs
 

@@ -1,3 +1,5 @@
+-- `sheet_text::answer_rest` meets its contract.
+-- Assumes nothing.
 use Rattle.sheet_text.proofs.Answers.{not-small, not-whole, rest-table, small-sides, small-fits, planes-samples}
 use lib.ListN.{length-replicate}
 use borrow.Author.Tests.{not-true, not-false}
@@ -7,38 +9,25 @@ use native.Mathlib.Omega.{arith}
 use borrow.Author.Needs.{needs}
 use Rattle.sheet_text.proofs.answer_rest.Statement.{statement}
 use Rattle.sheet_text.proofs.answer_rest.Tie as tie
-use Rattle.sheet_text.proofs.answer_rest.Reads as reads
-use Rattle.sheet_text.proofs.answer_rest.Lts as lts
-use Rattle.sheet_text.proofs.is_small.Reads as is-small-reads
-use Rattle.sheet_text.proofs.put_refusal.Reads as put-refusal-reads
-use Rattle.sheet_text.proofs.put_sheet.Reads as put-sheet-reads
-use Rattle.sheet_text.proofs.read_planes.Reads as read-planes-reads
 
--- src/lib.rt:528:9
 is-small-requires : tie.Need-is-small-requires
 is-small-requires c κs = search needs
 
--- src/lib.rt:529:9
 put-refusal-requires : tie.Need-put-refusal-requires
 put-refusal-requires c κs = search needs
 
--- src/lib.rt:529:9
 returns : tie.Need-returns
 returns c = rw (not-small (c .before .before .before .before .before .args .s .now) (c .before .before .before .before .before .args .v) (sym (c .before .before .before .is-small .ensures) ∙ not-true _ (c .before .before .if1 .taken))) (c .put-refusal .ensures)
 
--- src/lib.rt:534:30
 slice-aggregate-read-planes : tie.Need-slice-aggregate-read-planes
 slice-aggregate-read-planes c = search needs
 
--- src/lib.rt:534:38
 slice-aggregate-read-planes-2 : tie.Need-slice-aggregate-read-planes-2
 slice-aggregate-read-planes-2 c = search needs
 
--- src/lib.rt:534:46
 slice-aggregate-read-planes-3 : tie.Need-slice-aggregate-read-planes-3
 slice-aggregate-read-planes-3 c = search needs
 
--- src/lib.rt:534:8
 read-planes-requires : tie.Need-read-planes-requires
 read-planes-requires c κs =
     let t = small-sides (c .before .before .before .before .before .before .args .v) (sym (c .before .before .before .before .is-small .ensures) ∙ not-false _ (c .before .before .before .if1 .left)) in
@@ -52,19 +41,15 @@ read-planes-requires c κs =
       cr = length-replicate {A = ℕ} 4096 0;
     }
 
--- src/lib.rt:535:34
 slice-aggregate-put-sheet : tie.Need-slice-aggregate-put-sheet
 slice-aggregate-put-sheet c = search needs
 
--- src/lib.rt:535:38
 slice-aggregate-put-sheet-2 : tie.Need-slice-aggregate-put-sheet-2
 slice-aggregate-put-sheet-2 c = search needs
 
--- src/lib.rt:535:42
 slice-aggregate-put-sheet-3 : tie.Need-slice-aggregate-put-sheet-3
 slice-aggregate-put-sheet-3 c = search needs
 
--- src/lib.rt:535:9
 put-sheet-requires : tie.Need-put-sheet-requires
 put-sheet-requires c κs =
     let e = (sym (c .before .before .before .before .before .before .before .before .before .before .before .before .before .is-small .ensures) ∙ not-false _ (c .before .before .before .before .before .before .before .before .before .before .before .before .if1 .left)) in
@@ -74,15 +59,12 @@ put-sheet-requires c κs =
           (c .before .before .before .before .before .before .before .before .read-planes .kept .1 .1 .1 .0) (c .before .before .before .before .before .before .before .before .read-planes .kept .1 .1 .1 .1 .0) (c .before .before .before .before .before .before .before .before .read-planes .kept .1 .1 .1 .1 .1 .0),
     )
 
--- src/lib.rt:535:9
 returns-2 : tie.Need-returns-2
 returns-2 c = rw (rest-table (c .before .before .before .before .before .before .before .before .before .before .before .before .before .before .before .before .args .s .now) (c .before .before .before .before .before .before .before .before .before .before .before .before .before .before .before .before .args .v) (c .before .before .before .before .before .before .before .before .before .read-planes .last .1 .1 .1 .0) (c .before .before .before .before .before .before .before .before .before .read-planes .last .1 .1 .1 .1 .0) (c .before .before .before .before .before .before .before .before .before .read-planes .last .1 .1 .1 .1 .1 .0) (sym (c .before .before .before .before .before .before .before .before .before .before .before .before .before .before .is-small .ensures) ∙ not-false _ (c .before .before .before .before .before .before .before .before .before .before .before .before .before .if1 .left)) (sym (c .before .before .before .before .before .before .before .before .before .read-planes .ensures .0) ∙ c .before .before .before .before .before .if2 .taken) (c .before .before .before .before .before .before .before .before .before .read-planes .ensures .1 (c .before .before .before .before .before .if2 .taken))) (c .put-sheet .ensures)
 
--- src/lib.rt:537:5
 put-refusal-requires-2 : tie.Need-put-refusal-requires-2
 put-refusal-requires-2 c κs = search needs
 
--- src/lib.rt:524:1
 returns-3 : tie.Need-returns-3
 returns-3 c = rw (not-whole (c .before .before .before .before .before .before .before .before .before .before .before .before .before .args .s .now) (c .before .before .before .before .before .before .before .before .before .before .before .before .before .args .v) (sym (c .before .before .before .before .before .before .before .before .before .before .before .is-small .ensures) ∙ not-false _ (c .before .before .before .before .before .before .before .before .before .before .if1 .left)) (sym (c .before .before .before .before .before .before .read-planes .ensures .0) ∙ c .before .before .if2 .left)) (c .put-refusal2 .ensures)
 

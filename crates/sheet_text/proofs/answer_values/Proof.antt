@@ -1,40 +1,30 @@
+-- `sheet_text::answer_values` meets its contract.
+-- Assumes nothing.
 use Rattle.sheet_text.proofs.Answers.{sampling-unknown, code-unknown, values-known}
 use lib.Dec.{T}
 use mathlib.Core.Path.{sym, _∙_, subst⁻¹}
 use borrow.Author.Needs.{needs}
 use Rattle.sheet_text.proofs.answer_values.Statement.{statement}
 use Rattle.sheet_text.proofs.answer_values.Tie as tie
-use Rattle.sheet_text.proofs.answer_values.Reads as reads
-use Rattle.sheet_text.proofs.answer_values.Lts as lts
-use Rattle.sheet_text.proofs.answer_rest.Reads as answer-rest-reads
-use Rattle.sheet_text.proofs.is_known.Reads as is-known-reads
-use Rattle.sheet_text.proofs.put_refusal.Reads as put-refusal-reads
 
--- src/lib.rt:546:9
 put-refusal-requires : tie.Need-put-refusal-requires
 put-refusal-requires c κs = search needs
 
--- src/lib.rt:546:9
 returns : tie.Need-returns
 returns c = rw (sampling-unknown (c .before .before .before .before .before .args .s .now) (c .before .before .before .before .before .args .v) (c .before .before .if1 .taken)) (c .put-refusal .ensures)
 
--- src/lib.rt:548:8
 is-known-requires : tie.Need-is-known-requires
 is-known-requires c κs = search needs
 
--- src/lib.rt:549:9
 answer-rest-requires : tie.Need-answer-rest-requires
 answer-rest-requires c κs = (c .before .before .before .before .before .before .pre, c .before .before .before .if1 .left, subst⁻¹ T (sym (c .before .before .is-known .ensures) ∙ c .before .if2 .taken) tt)
 
--- src/lib.rt:549:9
 returns-2 : tie.Need-returns-2
 returns-2 c = rw (values-known (c .before .before .before .before .before .before .before .args .s .now) (c .before .before .before .before .before .before .before .args .v) (c .before .before .before .before .if1 .left) (sym (c .before .before .before .is-known .ensures) ∙ c .before .before .if2 .taken)) (c .answer-rest .ensures)
 
--- src/lib.rt:551:5
 put-refusal-requires-2 : tie.Need-put-refusal-requires-2
 put-refusal-requires-2 c κs = search needs
 
--- src/lib.rt:541:1
 returns-3 : tie.Need-returns-3
 returns-3 c = rw (code-unknown (c .before .before .before .before .before .before .before .args .s .now) (c .before .before .before .before .before .before .before .args .v) (c .before .before .before .before .if1 .left) (sym (c .before .before .before .is-known .ensures) ∙ c .before .before .if2 .left)) (c .put-refusal2 .ensures)
 

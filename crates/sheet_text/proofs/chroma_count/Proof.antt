@@ -1,3 +1,5 @@
+-- `sheet_text::chroma_count` meets its contract.
+-- Assumes nothing.
 use Rattle.sheet_text.proofs.Sizes.{small-product, chroma-height-most}
 use Rattle.yuv_support.specs.Blend.{chromaWidth}
 use Prim.Native.Nat.{_≤_}
@@ -5,32 +7,22 @@ use native.Mathlib.Omega.{arith}
 use borrow.Author.Needs.{needs}
 use Rattle.sheet_text.proofs.chroma_count.Statement.{statement}
 use Rattle.sheet_text.proofs.chroma_count.Tie as tie
-use Rattle.sheet_text.proofs.chroma_count.Reads as reads
-use Rattle.sheet_text.proofs.chroma_count.Lts as lts
-use Rattle.images.proofs.chroma_height.Reads as chroma-height-reads
-use Rattle.yuv_support.proofs.sampling_of.Reads as sampling-of-reads
 
--- src/lib.rt:359:9
 sampling-of-requires : tie.Need-sampling-of-requires
 sampling-of-requires c κs = search needs
 
--- src/lib.rt:360:9
 chroma-height-requires : tie.Need-chroma-height-requires
 chroma-height-requires c κs = search needs
 
--- src/lib.rt:361:6
 cast-result : tie.Need-cast-result
 cast-result c = search needs
 
--- src/lib.rt:361:6
 add-result : tie.Need-add-result
 add-result c = search needs
 
--- src/lib.rt:361:34
 cast-result-2 : tie.Need-cast-result-2
 cast-result-2 c = search needs
 
--- src/lib.rt:361:5
 mul-result : tie.Need-mul-result
 mul-result c =
     let h = c .before .chroma-height .ensures in
@@ -39,7 +31,6 @@ mul-result c =
     let l : c .before .chroma-height .result ≤ 64 = omega (arith, c .before .before .before .pre .1) in
     omega (arith, small-product (chromaWidth (c .before .before .before .args .v .width)) (c .before .chroma-height .result) w l)
 
--- src/lib.rt:355:1
 returns : tie.Need-returns
 returns c = rw (c .before .chroma-height .ensures, c .before .before .sampling-of .ensures)
 

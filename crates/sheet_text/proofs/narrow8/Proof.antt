@@ -1,10 +1,10 @@
+-- `sheet_text::narrow8` meets its contract.
+-- Assumes nothing.
 use Rattle.sheet_text.proofs.Copy.{Copied, copied-none, copied-one, copied-all}
 use Prim.Native.Nat.{_-_}
 use native.Mathlib.Omega.{arith}
 use Rattle.sheet_text.proofs.narrow8.Statement.{statement}
 use Rattle.sheet_text.proofs.narrow8.Tie as tie
-use Rattle.sheet_text.proofs.narrow8.Reads as reads
-use Rattle.sheet_text.proofs.narrow8.Lts as lts
 
 abbrev Inv-loop : tie.InvT-loop
 Inv-loop numbers n plane₀ i₀ plane i = Copied numbers plane₀ n plane i
@@ -12,43 +12,33 @@ Inv-loop numbers n plane₀ i₀ plane i = Copied numbers plane₀ n plane i
 abbrev μ-loop : tie.MeasureT-loop
 μ-loop numbers n plane₀ i₀ plane i = n - i
 
--- src/lib.rt:288:5
 loop-holds : tie.Need-loop-holds Inv-loop μ-loop
 loop-holds c = copied-none (c .args .numbers .now) (c .args .plane .now) (c .args .n)
 
--- src/lib.rt:289:20
 mul-plane : tie.Need-mul-plane Inv-loop μ-loop
 mul-plane c = omega arith
 
--- src/lib.rt:289:20
 shared-slice-read-plane : tie.Need-shared-slice-read-plane Inv-loop μ-loop
 shared-slice-read-plane c = omega arith
 
--- src/lib.rt:289:20
 cast-plane : tie.Need-cast-plane Inv-loop μ-loop
 cast-plane c = omega (arith, c .before .before .before .pre .2 (c .before .before .loop .i) (c .before .loop-test .taken))
 
--- src/lib.rt:289:9
 slice-write-plane : tie.Need-slice-write-plane Inv-loop μ-loop
 slice-write-plane c = omega (arith, c .before .before .loop .inv .kept)
 
--- src/lib.rt:290:9
 add-i : tie.Need-add-i Inv-loop μ-loop
 add-i c = omega arith
 
--- src/lib.rt:288:5
 loop-less : tie.Need-loop-less Inv-loop μ-loop
 loop-less c = omega arith
 
--- src/lib.rt:288:5
 loop-again : tie.Need-loop-again Inv-loop μ-loop
 loop-again c = copied-one (c .before .before .before .args .numbers .now) (c .before .before .before .args .plane .now) (c .before .before .before .args .n) (c .before .before .loop .plane) (c .before .before .loop .i) (c .before .before .loop .inv) (c .before .loop-test .taken) (c .before .before .before .pre .0) (c .before .before .before .pre .1)
 
--- src/lib.rt:283:1
 same-length : tie.Need-same-length Inv-loop μ-loop
 same-length c = c .before .loop .inv .kept
 
--- src/lib.rt:283:1
 returns : tie.Need-returns Inv-loop μ-loop
 returns c = copied-all (c .before .before .args .numbers .now) (c .before .before .args .plane .now) (c .before .before .args .n) (c .before .loop .inv) (c .loop-test .left)
 

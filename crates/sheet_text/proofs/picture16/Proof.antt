@@ -1,3 +1,5 @@
+-- `sheet_text::picture16` meets its contract.
+-- Assumes nothing.
 use Rattle.sheet_text.proofs.Converted.{luma-most, chroma-most, planes-shown, most-counted}
 use Rattle.sheet_text.specs.Sheet.{lumaCount, chromaCount}
 use Rattle.yuv_support.specs.Picture.{channelsOf}
@@ -10,98 +12,67 @@ use native.Mathlib.Omega.{arith}
 use borrow.Author.Needs.{needs}
 use Rattle.sheet_text.proofs.picture16.Statement.{statement}
 use Rattle.sheet_text.proofs.picture16.Tie as tie
-use Rattle.sheet_text.proofs.picture16.Reads as reads
-use Rattle.sheet_text.proofs.picture16.Lts as lts
-use Rattle.images.proofs.row_length.Reads as row-length-reads
-use Rattle.sheet_text.proofs.chroma_count.Reads as chroma-count-reads
-use Rattle.sheet_text.proofs.codes_of.Reads as codes-of-reads
-use Rattle.sheet_text.proofs.image_of.Reads as image-of-reads
-use Rattle.sheet_text.proofs.luma_count.Reads as luma-count-reads
-use Rattle.sheet_text.proofs.narrow16.Reads as narrow16-reads
-use Rattle.yuv_p16_to_rgba16_bilinear.proofs.yuv16_to_rgbx_bilinear.Reads as yuv16-to-rgbx-bilinear-reads
-use Rattle.yuv_support.proofs.order_of.Reads as order-of-reads
 
--- src/lib.rt:457:9
 luma-count-requires : tie.Need-luma-count-requires
 luma-count-requires c κs = search needs
 
--- src/lib.rt:458:9
 chroma-count-requires : tie.Need-chroma-count-requires
 chroma-count-requires c κs = search needs
 
--- src/lib.rt:462:20
 slice-aggregate-narrow16 : tie.Need-slice-aggregate-narrow16
 slice-aggregate-narrow16 c = search needs
 
--- src/lib.rt:462:5
 narrow16-requires : tie.Need-narrow16-requires
 narrow16-requires c κs = most-counted 65535 (lumaCount (c .before .before .before .before .before .before .before .args .v)) (c .before .before .luma-count .result) (c .before .before .before .before .before .before .before .args .y .now) (c .before .before .luma-count .ensures) (luma-most depths16 (c .before .before .before .before .before .before .before .args .v) (c .before .before .before .before .before .before .before .pre .0)) (c .before .before .before .before .before .before .before .pre .1 .luma)
 
--- src/lib.rt:463:20
 slice-aggregate-narrow16-2 : tie.Need-slice-aggregate-narrow16-2
 slice-aggregate-narrow16-2 c = search needs
 
--- src/lib.rt:463:5
 narrow16-requires-2 : tie.Need-narrow16-requires-2
 narrow16-requires-2 c κs = most-counted 65535 (chromaCount (c .before .before .before .before .before .before .before .before .before .before .args .v)) (c .before .before .before .before .chroma-count .result) (c .before .before .before .before .before .before .before .before .before .before .args .u .now) (c .before .before .before .before .chroma-count .ensures) (chroma-most depths16 (c .before .before .before .before .before .before .before .before .before .before .args .v) (c .before .before .before .before .before .before .before .before .before .before .pre .0)) (c .before .before .before .before .before .before .before .before .before .before .pre .1 .cb)
 
--- src/lib.rt:464:20
 slice-aggregate-narrow16-3 : tie.Need-slice-aggregate-narrow16-3
 slice-aggregate-narrow16-3 c = search needs
 
--- src/lib.rt:464:5
 narrow16-requires-3 : tie.Need-narrow16-requires-3
 narrow16-requires-3 c κs = most-counted 65535 (chromaCount (c .before .before .before .before .before .before .before .before .before .before .before .before .before .args .v)) (c .before .before .before .before .before .before .before .chroma-count .result) (c .before .before .before .before .before .before .before .before .before .before .before .before .before .args .w .now) (c .before .before .before .before .before .before .before .chroma-count .ensures) (chroma-most depths16 (c .before .before .before .before .before .before .before .before .before .before .before .before .before .args .v) (c .before .before .before .before .before .before .before .before .before .before .before .before .before .pre .0)) (c .before .before .before .before .before .before .before .before .before .before .before .before .before .pre .1 .cr)
 
--- src/lib.rt:465:46
 order-of-requires : tie.Need-order-of-requires
 order-of-requires c κs = search needs
 
--- src/lib.rt:465:9
 row-length-requires : tie.Need-row-length-requires
 row-length-requires c κs = search needs
 
--- src/lib.rt:466:56
 codes-of-requires : tie.Need-codes-of-requires
 codes-of-requires c κs = search needs
 
--- src/lib.rt:466:69
 image-of-requires : tie.Need-image-of-requires
 image-of-requires c κs = search needs
 
--- src/lib.rt:466:82
 array-share-prefix-luma : tie.Need-array-share-prefix-luma
 array-share-prefix-luma c = omega (arith, luma-most depths16 (c .before .before .before .before .before .before .before .before .before .before .before .before .before .before .before .before .before .before .before .args .v) (c .before .before .before .before .before .before .before .before .before .before .before .before .before .before .before .before .before .before .before .pre .0), c .before .before .before .before .before .before .before .before .before .before .before .before .before .before .luma-count .ensures, c .before .before .before .before .before .before .before .before .before .before .before .narrow16 .kept .1 .1 .0)
 
--- src/lib.rt:466:82
 slice-aggregate-yuv16-to-rgbx-bilinear : tie.Need-slice-aggregate-yuv16-to-rgbx-bilinear
 slice-aggregate-yuv16-to-rgbx-bilinear c = sym (length-take-le (c .before .before .before .before .before .before .before .before .before .before .before .before .before .before .before .luma-count .result) (c .before .before .before .before .before .before .before .before .before .before .before .before .narrow16 .last .1 .1 .0) (let h : c .before .before .before .before .before .before .before .before .before .before .before .before .before .before .before .luma-count .result ≤ length (c .before .before .before .before .before .before .before .before .before .before .before .before .narrow16 .last .1 .1 .0) = omega (arith, luma-most depths16 (c .before .before .before .before .before .before .before .before .before .before .before .before .before .before .before .before .before .before .before .before .args .v) (c .before .before .before .before .before .before .before .before .before .before .before .before .before .before .before .before .before .before .before .before .pre .0), c .before .before .before .before .before .before .before .before .before .before .before .before .before .before .before .luma-count .ensures, c .before .before .before .before .before .before .before .before .before .before .before .before .narrow16 .kept .1 .1 .0) in h))
 
--- src/lib.rt:466:94
 array-share-prefix-cb : tie.Need-array-share-prefix-cb
 array-share-prefix-cb c = omega (arith, chroma-most depths16 (c .before .before .before .before .before .before .before .before .before .before .before .before .before .before .before .before .before .before .before .before .args .v) (c .before .before .before .before .before .before .before .before .before .before .before .before .before .before .before .before .before .before .before .before .pre .0), c .before .before .before .before .before .before .before .before .before .before .before .before .before .before .chroma-count .ensures, c .before .before .before .before .before .before .before .before .before .narrow162 .kept .1 .1 .0)
 
--- src/lib.rt:466:94
 slice-aggregate-yuv16-to-rgbx-bilinear-2 : tie.Need-slice-aggregate-yuv16-to-rgbx-bilinear-2
 slice-aggregate-yuv16-to-rgbx-bilinear-2 c = sym (length-take-le (c .before .before .before .before .before .before .before .before .before .before .before .before .before .before .before .chroma-count .result) (c .before .before .before .before .before .before .before .before .before .before .narrow162 .last .1 .1 .0) (let h : c .before .before .before .before .before .before .before .before .before .before .before .before .before .before .before .chroma-count .result ≤ length (c .before .before .before .before .before .before .before .before .before .before .narrow162 .last .1 .1 .0) = omega (arith, chroma-most depths16 (c .before .before .before .before .before .before .before .before .before .before .before .before .before .before .before .before .before .before .before .before .before .args .v) (c .before .before .before .before .before .before .before .before .before .before .before .before .before .before .before .before .before .before .before .before .before .pre .0), c .before .before .before .before .before .before .before .before .before .before .before .before .before .before .before .chroma-count .ensures, c .before .before .before .before .before .before .before .before .before .before .narrow162 .kept .1 .1 .0) in h))
 
--- src/lib.rt:466:104
 array-share-prefix-cr : tie.Need-array-share-prefix-cr
 array-share-prefix-cr c = omega (arith, chroma-most depths16 (c .before .before .before .before .before .before .before .before .before .before .before .before .before .before .before .before .before .before .before .before .before .args .v) (c .before .before .before .before .before .before .before .before .before .before .before .before .before .before .before .before .before .before .before .before .before .pre .0), c .before .before .before .before .before .before .before .before .before .before .before .before .before .before .before .chroma-count .ensures, c .before .before .before .before .before .before .before .narrow163 .kept .1 .1 .0)
 
--- src/lib.rt:466:104
 slice-aggregate-yuv16-to-rgbx-bilinear-3 : tie.Need-slice-aggregate-yuv16-to-rgbx-bilinear-3
 slice-aggregate-yuv16-to-rgbx-bilinear-3 c = sym (length-take-le (c .before .before .before .before .before .before .before .before .before .before .before .before .before .before .before .before .chroma-count .result) (c .before .before .before .before .before .before .before .before .narrow163 .last .1 .1 .0) (let h : c .before .before .before .before .before .before .before .before .before .before .before .before .before .before .before .before .chroma-count .result ≤ length (c .before .before .before .before .before .before .before .before .narrow163 .last .1 .1 .0) = omega (arith, chroma-most depths16 (c .before .before .before .before .before .before .before .before .before .before .before .before .before .before .before .before .before .before .before .before .before .before .args .v) (c .before .before .before .before .before .before .before .before .before .before .before .before .before .before .before .before .before .before .before .before .before .before .pre .0), c .before .before .before .before .before .before .before .before .before .before .before .before .before .before .before .before .chroma-count .ensures, c .before .before .before .before .before .before .before .before .narrow163 .kept .1 .1 .0) in h))
 
--- src/lib.rt:466:5
 yuv16-to-rgbx-bilinear-requires : tie.Need-yuv16-to-rgbx-bilinear-requires
 yuv16-to-rgbx-bilinear-requires c κs = search needs
 
--- src/lib.rt:453:1
 same-length : tie.Need-same-length
 same-length c = search needs
 
--- src/lib.rt:453:1
 returns : tie.Need-returns
 returns c =
     planes-shown depths16 (c .before .before .before .before .before .before .before .before .before .before .before .before .before .before .before .before .before .before .before .before .before .before .before .before .before .before .args .v) (c .before .before .before .before .before .before .before .before .before .before .before .before .before .before .before .before .before .before .before .before .before .before .before .before .before .before .pre .0) (c .before .before .before .before .before .before .before .before .before .before .before .before .before .before .before .before .before .before .before .before .before .before .before .before .before .before .args .y .now) (c .before .before .before .before .before .before .before .before .before .before .before .before .before .before .before .before .before .before .before .before .before .before .before .before .before .before .args .u .now) (c .before .before .before .before .before .before .before .before .before .before .before .before .before .before .before .before .before .before .before .before .before .before .before .before .before .before .args .w .now)

@@ -1,3 +1,5 @@
+-- `sheet_text::picture8` meets its contract.
+-- Assumes nothing.
 use Rattle.sheet_text.proofs.Converted.{luma-most, chroma-most, planes-shown, whole-same, most-counted}
 use Rattle.sheet_text.specs.Sheet.{lumaCount, chromaCount}
 use Rattle.yuv_support.specs.Picture.{channelsOf}
@@ -10,111 +12,76 @@ use native.Mathlib.Omega.{arith}
 use borrow.Author.Needs.{needs}
 use Rattle.sheet_text.proofs.picture8.Statement.{statement}
 use Rattle.sheet_text.proofs.picture8.Tie as tie
-use Rattle.sheet_text.proofs.picture8.Reads as reads
-use Rattle.sheet_text.proofs.picture8.Lts as lts
-use Rattle.images.proofs.row_length.Reads as row-length-reads
-use Rattle.sheet_text.proofs.chroma_count.Reads as chroma-count-reads
-use Rattle.sheet_text.proofs.codes_of.Reads as codes-of-reads
-use Rattle.sheet_text.proofs.image_of.Reads as image-of-reads
-use Rattle.sheet_text.proofs.luma_count.Reads as luma-count-reads
-use Rattle.sheet_text.proofs.narrow8.Reads as narrow8-reads
-use Rattle.sheet_text.proofs.widen8.Reads as widen8-reads
-use Rattle.yuv_support.proofs.order_of.Reads as order-of-reads
-use Rattle.yuv_to_rgba_bilinear.proofs.yuv_to_rgbx_bilinear.Reads as yuv-to-rgbx-bilinear-reads
 
--- src/lib.rt:427:9
 luma-count-requires : tie.Need-luma-count-requires
 luma-count-requires c κs = search needs
 
--- src/lib.rt:428:9
 chroma-count-requires : tie.Need-chroma-count-requires
 chroma-count-requires c κs = search needs
 
--- src/lib.rt:433:19
 slice-aggregate-narrow8 : tie.Need-slice-aggregate-narrow8
 slice-aggregate-narrow8 c = search needs
 
--- src/lib.rt:433:5
 narrow8-requires : tie.Need-narrow8-requires
 narrow8-requires c κs = most-counted 255 (lumaCount (c .before .before .before .before .before .before .before .args .v)) (c .before .before .luma-count .result) (c .before .before .before .before .before .before .before .args .y .now) (c .before .before .luma-count .ensures) (luma-most depths8 (c .before .before .before .before .before .before .before .args .v) (c .before .before .before .before .before .before .before .pre .0)) (c .before .before .before .before .before .before .before .pre .1 .luma)
 
--- src/lib.rt:434:19
 slice-aggregate-narrow8-2 : tie.Need-slice-aggregate-narrow8-2
 slice-aggregate-narrow8-2 c = search needs
 
--- src/lib.rt:434:5
 narrow8-requires-2 : tie.Need-narrow8-requires-2
 narrow8-requires-2 c κs = most-counted 255 (chromaCount (c .before .before .before .before .before .before .before .before .before .before .args .v)) (c .before .before .before .before .chroma-count .result) (c .before .before .before .before .before .before .before .before .before .before .args .u .now) (c .before .before .before .before .chroma-count .ensures) (chroma-most depths8 (c .before .before .before .before .before .before .before .before .before .before .args .v) (c .before .before .before .before .before .before .before .before .before .before .pre .0)) (c .before .before .before .before .before .before .before .before .before .before .pre .1 .cb)
 
--- src/lib.rt:435:19
 slice-aggregate-narrow8-3 : tie.Need-slice-aggregate-narrow8-3
 slice-aggregate-narrow8-3 c = search needs
 
--- src/lib.rt:435:5
 narrow8-requires-3 : tie.Need-narrow8-requires-3
 narrow8-requires-3 c κs = most-counted 255 (chromaCount (c .before .before .before .before .before .before .before .before .before .before .before .before .before .args .v)) (c .before .before .before .before .before .before .before .chroma-count .result) (c .before .before .before .before .before .before .before .before .before .before .before .before .before .args .w .now) (c .before .before .before .before .before .before .before .chroma-count .ensures) (chroma-most depths8 (c .before .before .before .before .before .before .before .before .before .before .before .before .before .args .v) (c .before .before .before .before .before .before .before .before .before .before .before .before .before .pre .0)) (c .before .before .before .before .before .before .before .before .before .before .before .before .before .pre .1 .cr)
 
--- src/lib.rt:436:46
 order-of-requires : tie.Need-order-of-requires
 order-of-requires c κs = search needs
 
--- src/lib.rt:436:9
 row-length-requires : tie.Need-row-length-requires
 row-length-requires c κs = search needs
 
--- src/lib.rt:437:48
 codes-of-requires : tie.Need-codes-of-requires
 codes-of-requires c κs = search needs
 
--- src/lib.rt:437:61
 image-of-requires : tie.Need-image-of-requires
 image-of-requires c κs = search needs
 
--- src/lib.rt:437:74
 array-share-prefix-luma : tie.Need-array-share-prefix-luma
 array-share-prefix-luma c = omega (arith, luma-most depths8 (c .before .before .before .before .before .before .before .before .before .before .before .before .before .before .before .before .before .before .before .args .v) (c .before .before .before .before .before .before .before .before .before .before .before .before .before .before .before .before .before .before .before .pre .0), c .before .before .before .before .before .before .before .before .before .before .before .before .before .before .luma-count .ensures, c .before .before .before .before .before .before .before .before .before .before .before .narrow8 .kept .1 .1 .0)
 
--- src/lib.rt:437:74
 slice-aggregate-yuv-to-rgbx-bilinear : tie.Need-slice-aggregate-yuv-to-rgbx-bilinear
 slice-aggregate-yuv-to-rgbx-bilinear c = sym (length-take-le (c .before .before .before .before .before .before .before .before .before .before .before .before .before .before .before .luma-count .result) (c .before .before .before .before .before .before .before .before .before .before .before .before .narrow8 .last .1 .1 .0) (let h : c .before .before .before .before .before .before .before .before .before .before .before .before .before .before .before .luma-count .result ≤ length (c .before .before .before .before .before .before .before .before .before .before .before .before .narrow8 .last .1 .1 .0) = omega (arith, luma-most depths8 (c .before .before .before .before .before .before .before .before .before .before .before .before .before .before .before .before .before .before .before .before .args .v) (c .before .before .before .before .before .before .before .before .before .before .before .before .before .before .before .before .before .before .before .before .pre .0), c .before .before .before .before .before .before .before .before .before .before .before .before .before .before .before .luma-count .ensures, c .before .before .before .before .before .before .before .before .before .before .before .before .narrow8 .kept .1 .1 .0) in h))
 
--- src/lib.rt:437:86
 array-share-prefix-cb : tie.Need-array-share-prefix-cb
 array-share-prefix-cb c = omega (arith, chroma-most depths8 (c .before .before .before .before .before .before .before .before .before .before .before .before .before .before .before .before .before .before .before .before .args .v) (c .before .before .before .before .before .before .before .before .before .before .before .before .before .before .before .before .before .before .before .before .pre .0), c .before .before .before .before .before .before .before .before .before .before .before .before .before .before .chroma-count .ensures, c .before .before .before .before .before .before .before .before .before .narrow82 .kept .1 .1 .0)
 
--- src/lib.rt:437:86
 slice-aggregate-yuv-to-rgbx-bilinear-2 : tie.Need-slice-aggregate-yuv-to-rgbx-bilinear-2
 slice-aggregate-yuv-to-rgbx-bilinear-2 c = sym (length-take-le (c .before .before .before .before .before .before .before .before .before .before .before .before .before .before .before .chroma-count .result) (c .before .before .before .before .before .before .before .before .before .before .narrow82 .last .1 .1 .0) (let h : c .before .before .before .before .before .before .before .before .before .before .before .before .before .before .before .chroma-count .result ≤ length (c .before .before .before .before .before .before .before .before .before .before .narrow82 .last .1 .1 .0) = omega (arith, chroma-most depths8 (c .before .before .before .before .before .before .before .before .before .before .before .before .before .before .before .before .before .before .before .before .before .args .v) (c .before .before .before .before .before .before .before .before .before .before .before .before .before .before .before .before .before .before .before .before .before .pre .0), c .before .before .before .before .before .before .before .before .before .before .before .before .before .before .before .chroma-count .ensures, c .before .before .before .before .before .before .before .before .before .before .narrow82 .kept .1 .1 .0) in h))
 
--- src/lib.rt:437:96
 array-share-prefix-cr : tie.Need-array-share-prefix-cr
 array-share-prefix-cr c = omega (arith, chroma-most depths8 (c .before .before .before .before .before .before .before .before .before .before .before .before .before .before .before .before .before .before .before .before .before .args .v) (c .before .before .before .before .before .before .before .before .before .before .before .before .before .before .before .before .before .before .before .before .before .pre .0), c .before .before .before .before .before .before .before .before .before .before .before .before .before .before .before .chroma-count .ensures, c .before .before .before .before .before .before .before .narrow83 .kept .1 .1 .0)
 
--- src/lib.rt:437:96
 slice-aggregate-yuv-to-rgbx-bilinear-3 : tie.Need-slice-aggregate-yuv-to-rgbx-bilinear-3
 slice-aggregate-yuv-to-rgbx-bilinear-3 c = sym (length-take-le (c .before .before .before .before .before .before .before .before .before .before .before .before .before .before .before .before .chroma-count .result) (c .before .before .before .before .before .before .before .before .narrow83 .last .1 .1 .0) (let h : c .before .before .before .before .before .before .before .before .before .before .before .before .before .before .before .before .chroma-count .result ≤ length (c .before .before .before .before .before .before .before .before .narrow83 .last .1 .1 .0) = omega (arith, chroma-most depths8 (c .before .before .before .before .before .before .before .before .before .before .before .before .before .before .before .before .before .before .before .before .before .before .args .v) (c .before .before .before .before .before .before .before .before .before .before .before .before .before .before .before .before .before .before .before .before .before .before .pre .0), c .before .before .before .before .before .before .before .before .before .before .before .before .before .before .before .before .chroma-count .ensures, c .before .before .before .before .before .before .before .before .narrow83 .kept .1 .1 .0) in h))
 
--- src/lib.rt:437:106
 slice-aggregate-yuv-to-rgbx-bilinear-4 : tie.Need-slice-aggregate-yuv-to-rgbx-bilinear-4
 slice-aggregate-yuv-to-rgbx-bilinear-4 c = search needs
 
--- src/lib.rt:437:5
 yuv-to-rgbx-bilinear-requires : tie.Need-yuv-to-rgbx-bilinear-requires
 yuv-to-rgbx-bilinear-requires c κs = search needs
 
--- src/lib.rt:438:12
 slice-aggregate-widen8 : tie.Need-slice-aggregate-widen8
 slice-aggregate-widen8 c = search needs
 
--- src/lib.rt:438:5
 widen8-requires : tie.Need-widen8-requires
 widen8-requires c κs = (omega (arith, c .before .before .before .yuv-to-rgbx-bilinear .kept .1 .1 .1 .1 .1 .0), omega (arith, c .before .before .before .before .before .before .before .before .before .before .before .before .before .before .before .before .before .before .before .before .before .before .before .before .before .before .before .pre .2))
 
--- src/lib.rt:423:1
 same-length : tie.Need-same-length
 same-length c = search needs
 
--- src/lib.rt:423:1
 returns : tie.Need-returns
 returns c =
     let rgb = whole-same 16384 (c .before .before .widen8 .last .1 .1 .0) (c .before .before .before .before .before .before .yuv-to-rgbx-bilinear .last .1 .1 .1 .1 .1 .0)

@@ -1,3 +1,5 @@
+-- `sheet_text::put_bytes` meets its contract.
+-- Assumes nothing.
 use Rattle.sheet_text.proofs.Write.{wrote-nothing, wrote-one}
 use Rattle.sheet_text.specs.Text.{Wrote}
 use lib.Seq.{take-all}
@@ -7,8 +9,6 @@ use mathlib.Core.Path.{_≡_}
 use native.Mathlib.Omega.{arith}
 use Rattle.sheet_text.proofs.put_bytes.Statement.{statement}
 use Rattle.sheet_text.proofs.put_bytes.Tie as tie
-use Rattle.sheet_text.proofs.put_bytes.Reads as reads
-use Rattle.sheet_text.proofs.put_bytes.Lts as lts
 
 abbrev Inv-loop : tie.InvT-loop
 Inv-loop out₀ at text i₀ out i = (i ≤ length text) × Wrote out₀ at (take i text) out (at + i)
@@ -16,39 +16,30 @@ Inv-loop out₀ at text i₀ out i = (i ≤ length text) × Wrote out₀ at (tak
 abbrev μ-loop : tie.MeasureT-loop
 μ-loop out₀ at text i₀ out i = length text - i
 
--- src/lib.rt:164:5
 loop-holds : tie.Need-loop-holds Inv-loop μ-loop
 loop-holds c = (omega arith, let e : c .args .at + 0 ≡ c .args .at = omega arith in rw e (wrote-nothing (c .args .out .now) (c .args .at)))
 
--- src/lib.rt:165:23
 shared-slice-read-out : tie.Need-shared-slice-read-out Inv-loop μ-loop
 shared-slice-read-out c = omega arith
 
--- src/lib.rt:165:13
 add-out : tie.Need-add-out Inv-loop μ-loop
 add-out c = omega arith
 
--- src/lib.rt:165:9
 element-write-out : tie.Need-element-write-out Inv-loop μ-loop
 element-write-out c = omega arith
 
--- src/lib.rt:166:9
 add-i : tie.Need-add-i Inv-loop μ-loop
 add-i c = omega arith
 
--- src/lib.rt:164:5
 loop-less : tie.Need-loop-less Inv-loop μ-loop
 loop-less c = omega arith
 
--- src/lib.rt:164:5
 loop-again : tie.Need-loop-again Inv-loop μ-loop
 loop-again c = (omega arith, wrote-one (c .before .before .before .args .out .now) (c .before .before .before .args .at) (c .before .before .before .args .text .now) (c .before .before .loop .out) (c .before .before .loop .i) (c .before .before .loop .inv .1) (c .before .loop-test .taken))
 
--- src/lib.rt:168:5
 add-result : tie.Need-add-result Inv-loop μ-loop
 add-result c = omega arith
 
--- src/lib.rt:159:1
 returns : tie.Need-returns Inv-loop μ-loop
 returns c =
     let e : take (c .before .loop .i) (c .before .before .args .text .now) ≡ c .before .before .args .text .now = take-all (c .before .loop .i) (c .before .before .args .text .now) (c .loop-test .left) in

@@ -1,35 +1,28 @@
+-- `sheet_text::put_leading_digit` meets its contract.
+-- Assumes nothing.
 use Rattle.sheet_text.proofs.Write.{wrote-nothing}
 use Rattle.sheet_text.specs.Text.{leadingDigit}
 use borrow.Author.Tests.{lt-leb, le-leb}
 use borrow.Author.Needs.{needs}
 use Rattle.sheet_text.proofs.put_leading_digit.Statement.{statement}
 use Rattle.sheet_text.proofs.put_leading_digit.Tie as tie
-use Rattle.sheet_text.proofs.put_leading_digit.Reads as reads
-use Rattle.sheet_text.proofs.put_leading_digit.Lts as lts
-use Rattle.sheet_text.proofs.put_byte.Reads as put-byte-reads
 
--- src/lib.rt:177:9
 returns : tie.Need-returns
 unfolding leadingDigit
 returns c = rw (lt-leb _ _ (c .if1 .taken)) (wrote-nothing (c .before .args .out .now) (c .before .args .at))
 
--- src/lib.rt:179:29
 div-put-byte : tie.Need-div-put-byte
 div-put-byte c = search needs
 
--- src/lib.rt:179:24
 add-put-byte : tie.Need-add-put-byte
 add-put-byte c = search needs
 
--- src/lib.rt:179:23
 cast-put-byte : tie.Need-cast-put-byte
 cast-put-byte c = search needs
 
--- src/lib.rt:179:5
 put-byte-requires : tie.Need-put-byte-requires
 put-byte-requires c κs = search needs
 
--- src/lib.rt:172:1
 returns-2 : tie.Need-returns-2
 unfolding leadingDigit
 returns-2 c = rw (le-leb _ _ (c .before .before .if1 .left)) (c .put-byte .ensures)

@@ -1,34 +1,27 @@
+-- `sheet_text::put_line` meets its contract.
+-- Assumes nothing.
 use Rattle.sheet_text.proofs.Write.{number-text-length, wrote-then}
 use Rattle.sheet_text.specs.Sheet.{pixelText}
 use native.Mathlib.Omega.{arith}
 use borrow.Author.Needs.{needs}
 use Rattle.sheet_text.proofs.put_line.Statement.{statement}
 use Rattle.sheet_text.proofs.put_line.Tie as tie
-use Rattle.sheet_text.proofs.put_line.Reads as reads
-use Rattle.sheet_text.proofs.put_line.Lts as lts
-use Rattle.sheet_text.proofs.put_number.Reads as put-number-reads
 
--- src/lib.rt:217:9
 put-number-requires : tie.Need-put-number-requires
 put-number-requires c κs = search needs
 
--- src/lib.rt:218:9
 put-number-requires-2 : tie.Need-put-number-requires-2
 put-number-requires-2 c κs = omega (arith, c .before .put-number .ensures .place, number-text-length (c .before .before .before .args .row) 32, c .before .before .before .pre)
 
--- src/lib.rt:219:9
 put-number-requires-3 : tie.Need-put-number-requires-3
 put-number-requires-3 c κs = omega (arith, c .before .before .before .put-number .ensures .place, number-text-length (c .before .before .before .before .before .args .row) 32, c .before .put-number2 .ensures .place, number-text-length (c .before .before .before .before .before .args .column) 32, c .before .before .before .before .before .pre)
 
--- src/lib.rt:220:9
 put-number-requires-4 : tie.Need-put-number-requires-4
 put-number-requires-4 c κs = omega (arith, c .before .before .before .before .before .put-number .ensures .place, number-text-length (c .before .before .before .before .before .before .before .args .row) 32, c .before .before .before .put-number2 .ensures .place, number-text-length (c .before .before .before .before .before .before .before .args .column) 32, c .before .put-number3 .ensures .place, number-text-length (c .before .before .before .before .before .before .before .args .r) 32, c .before .before .before .before .before .before .before .pre)
 
--- src/lib.rt:221:5
 put-number-requires-5 : tie.Need-put-number-requires-5
 put-number-requires-5 c κs = omega (arith, c .before .before .before .before .before .before .before .put-number .ensures .place, number-text-length (c .before .before .before .before .before .before .before .before .before .args .row) 32, c .before .before .before .before .before .put-number2 .ensures .place, number-text-length (c .before .before .before .before .before .before .before .before .before .args .column) 32, c .before .before .before .put-number3 .ensures .place, number-text-length (c .before .before .before .before .before .before .before .before .before .args .r) 32, c .before .put-number4 .ensures .place, number-text-length (c .before .before .before .before .before .before .before .before .before .args .g) 32, c .before .before .before .before .before .before .before .before .before .pre)
 
--- src/lib.rt:213:1
 returns : tie.Need-returns
 unfolding pixelText
 returns c = wrote-then (wrote-then (wrote-then (wrote-then (c .before .before .before .before .before .before .before .before .put-number .ensures) (c .before .before .before .before .before .before .put-number2 .ensures)) (c .before .before .before .before .put-number3 .ensures)) (c .before .before .put-number4 .ensures)) (c .put-number5 .ensures)

@@ -1,47 +1,36 @@
+-- `sheet_text::put_number` meets its contract.
+-- Assumes nothing.
 use Rattle.sheet_text.proofs.Write.{leading-digit-length, wrote-then}
 use Rattle.sheet_text.specs.Text.{decimalText, numberText}
 use native.Mathlib.Omega.{arith}
 use borrow.Author.Needs.{needs}
 use Rattle.sheet_text.proofs.put_number.Statement.{statement}
 use Rattle.sheet_text.proofs.put_number.Tie as tie
-use Rattle.sheet_text.proofs.put_number.Reads as reads
-use Rattle.sheet_text.proofs.put_number.Lts as lts
-use Rattle.sheet_text.proofs.put_byte.Reads as put-byte-reads
-use Rattle.sheet_text.proofs.put_leading_digit.Reads as put-leading-digit-reads
 
--- src/lib.rt:187:9
 put-leading-digit-requires : tie.Need-put-leading-digit-requires
 put-leading-digit-requires c κs = search needs
 
--- src/lib.rt:188:9
 put-leading-digit-requires-2 : tie.Need-put-leading-digit-requires-2
 put-leading-digit-requires-2 c κs = omega (arith, c .before .put-leading-digit .ensures .place, leading-digit-length 10000 (c .before .before .before .args .n), c .before .before .before .pre)
 
--- src/lib.rt:189:9
 put-leading-digit-requires-3 : tie.Need-put-leading-digit-requires-3
 put-leading-digit-requires-3 c κs = omega (arith, c .before .put-leading-digit2 .ensures .place, c .before .before .before .put-leading-digit .ensures .place, leading-digit-length 10000 (c .before .before .before .before .before .args .n), leading-digit-length 1000 (c .before .before .before .before .before .args .n), c .before .before .before .before .before .pre)
 
--- src/lib.rt:190:9
 put-leading-digit-requires-4 : tie.Need-put-leading-digit-requires-4
 put-leading-digit-requires-4 c κs = omega (arith, c .before .put-leading-digit3 .ensures .place, c .before .before .before .put-leading-digit2 .ensures .place, c .before .before .before .before .before .put-leading-digit .ensures .place, leading-digit-length 10000 (c .before .before .before .before .before .before .before .args .n), leading-digit-length 1000 (c .before .before .before .before .before .before .before .args .n), leading-digit-length 100 (c .before .before .before .before .before .before .before .args .n), c .before .before .before .before .before .before .before .pre)
 
--- src/lib.rt:191:31
 add-put-byte : tie.Need-add-put-byte
 add-put-byte c = search needs
 
--- src/lib.rt:191:30
 cast-put-byte : tie.Need-cast-put-byte
 cast-put-byte c = search needs
 
--- src/lib.rt:191:9
 put-byte-requires : tie.Need-put-byte-requires
 put-byte-requires c κs = omega (arith, c .before .put-leading-digit4 .ensures .place, c .before .before .before .put-leading-digit3 .ensures .place, c .before .before .before .before .before .put-leading-digit2 .ensures .place, c .before .before .before .before .before .before .before .put-leading-digit .ensures .place, leading-digit-length 10000 (c .before .before .before .before .before .before .before .before .before .args .n), leading-digit-length 1000 (c .before .before .before .before .before .before .before .before .before .args .n), leading-digit-length 100 (c .before .before .before .before .before .before .before .before .before .args .n), leading-digit-length 10 (c .before .before .before .before .before .before .before .before .before .args .n), c .before .before .before .before .before .before .before .before .before .pre)
 
--- src/lib.rt:192:5
 put-byte-requires-2 : tie.Need-put-byte-requires-2
 put-byte-requires-2 c κs = omega (arith, c .before .put-byte .ensures .place, c .before .before .before .put-leading-digit4 .ensures .place, c .before .before .before .before .before .put-leading-digit3 .ensures .place, c .before .before .before .before .before .before .before .put-leading-digit2 .ensures .place, c .before .before .before .before .before .before .before .before .before .put-leading-digit .ensures .place, leading-digit-length 10000 (c .before .before .before .before .before .before .before .before .before .before .before .args .n), leading-digit-length 1000 (c .before .before .before .before .before .before .before .before .before .before .before .args .n), leading-digit-length 100 (c .before .before .before .before .before .before .before .before .before .before .before .args .n), leading-digit-length 10 (c .before .before .before .before .before .before .before .before .before .before .before .args .n), c .before .before .before .before .before .before .before .before .before .before .before .pre)
 
--- src/lib.rt:183:1
 returns : tie.Need-returns
 unfolding decimalText numberText
 returns c = wrote-then (wrote-then (wrote-then (wrote-then (wrote-then (c .before .before .before .before .before .before .before .before .before .before .put-leading-digit .ensures) (c .before .before .before .before .before .before .before .before .put-leading-digit2 .ensures)) (c .before .before .before .before .before .before .put-leading-digit3 .ensures)) (c .before .before .before .before .put-leading-digit4 .ensures)) (c .before .before .put-byte .ensures)) (c .put-byte2 .ensures)

@@ -1,3 +1,5 @@
+-- `sheet_text::put_sheet` meets its contract.
+-- Assumes nothing.
 use Rattle.sheet_text.proofs.Shown.{places-small, shown-table}
 use Rattle.sheet_text.specs.Sheet.{lumaCount, chromaCount}
 use Rattle.yuv_support.specs.Settings.{depths}
@@ -5,29 +7,19 @@ use lib.ListN.{take}
 use borrow.Author.Needs.{needs}
 use Rattle.sheet_text.proofs.put_sheet.Statement.{statement}
 use Rattle.sheet_text.proofs.put_sheet.Tie as tie
-use Rattle.sheet_text.proofs.put_sheet.Reads as reads
-use Rattle.sheet_text.proofs.put_sheet.Lts as lts
-use Rattle.sheet_text.proofs.convert.Reads as convert-reads
-use Rattle.sheet_text.proofs.places_of.Reads as places-of-reads
-use Rattle.sheet_text.proofs.put_table.Reads as put-table-reads
 
--- src/lib.rt:468:25
 slice-aggregate-convert : tie.Need-slice-aggregate-convert
 slice-aggregate-convert c = search needs
 
--- src/lib.rt:468:5
 convert-requires : tie.Need-convert-requires
 convert-requires c κs = search needs
 
--- src/lib.rt:469:9
 places-of-requires : tie.Need-places-of-requires
 places-of-requires c κs = search needs
 
--- src/lib.rt:470:5
 put-table-requires : tie.Need-put-table-requires
 put-table-requires c κs = rw (c .before .before .places-of .ensures) (places-small depths (c .before .before .before .before .before .before .before .before .before .args .v) (c .before .before .before .before .before .before .before .before .before .pre .0))
 
--- src/lib.rt:463:1
 returns : tie.Need-returns
 returns c =
     let e = c .put-table .ensures in

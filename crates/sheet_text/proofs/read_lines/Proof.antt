@@ -1,3 +1,5 @@
+-- `sheet_text::read_lines` meets its contract.
+-- Assumes nothing.
 use Rattle.sheet_text.specs.Read.{numberRead}
 use Rattle.sheet_text.proofs.ManyNumbers.{Reading, reading-none, reading-one, reading-missed, reading-above, reading-refused, reading-done}
 use Prim.Native.Nat.{_-_}
@@ -6,10 +8,6 @@ use borrow.Author.Needs.{needs}
 use native.Mathlib.Omega.{arith}
 use Rattle.sheet_text.proofs.read_lines.Statement.{statement}
 use Rattle.sheet_text.proofs.read_lines.Tie as tie
-use Rattle.sheet_text.proofs.read_lines.Reads as reads
-use Rattle.sheet_text.proofs.read_lines.Lts as lts
-use Rattle.sheet_text.proofs.ending_of.Reads as ending-of-reads
-use Rattle.sheet_text.proofs.read_number.Reads as read-number-reads
 
 abbrev Inv-loop : tie.InvT-loop
 Inv-loop s at width limit n numbers₀ place₀ i₀ numbers place i = Reading s at width limit n numbers₀ numbers place i
@@ -17,75 +15,59 @@ Inv-loop s at width limit n numbers₀ place₀ i₀ numbers place i = Reading s
 abbrev μ-loop : tie.MeasureT-loop
 μ-loop s at width limit n numbers₀ place₀ i₀ numbers place i = n - i
 
--- src/lib.rt:114:5
 loop-holds : tie.Need-loop-holds Inv-loop μ-loop
 loop-holds c = reading-none (c .before .before .args .s .now) (c .before .before .args .at) (c .before .before .args .width) (c .before .before .args .limit) (c .before .before .args .n) (c .before .before .args .numbers .now) (c .before .before .pre .0)
 
--- src/lib.rt:115:13
 ending-of-requires : tie.Need-ending-of-requires Inv-loop μ-loop
 ending-of-requires c κs = omega (arith, c .before .before .before .before .pre)
 
--- src/lib.rt:116:13
 read-number-requires : tie.Need-read-number-requires Inv-loop μ-loop
 read-number-requires c κs = c .before .before .loop .inv .within
 
--- src/lib.rt:118:33
 enum-told : tie.Need-enum-told Inv-loop μ-loop
 enum-told c = search needs
 
--- src/lib.rt:118:33
 same-length : tie.Need-same-length Inv-loop μ-loop
 same-length c = c .before .before .before .before .before .loop .inv .kept
 
--- src/lib.rt:118:33
 returns : tie.Need-returns Inv-loop μ-loop
 returns c =
     reading-refused (c .before .before .before .before .before .before .before .before .args .s .now) (c .before .before .before .before .before .before .before .before .args .at) (c .before .before .before .before .before .before .before .before .args .width) (c .before .before .before .before .before .before .before .before .args .limit) (c .before .before .before .before .before .before .before .before .args .n) (c .before .before .before .before .before .before .before .before .args .numbers .now)
     (reading-missed (c .before .before .before .before .before .before .before .before .args .s .now) (c .before .before .before .before .before .before .before .before .args .at) (c .before .before .before .before .before .before .before .before .args .width) (c .before .before .before .before .before .before .before .before .args .limit) (c .before .before .before .before .before .before .before .before .args .n) (c .before .before .before .before .before .before .before .before .args .numbers .now) (c .before .before .before .before .before .loop .inv) (c .before .before .before .before .loop-test .taken)
     (ap (numberRead (c .before .before .before .before .before .before .before .before .args .s .now) (c .before .before .before .before .before .loop .place)) (sym (c .before .before .before .ending-of .ensures)) ∙ sym (c .before .before .read-number .ensures) ∙ c .enum-told .given .1))
 
--- src/lib.rt:119:27
 enum-known-number : tie.Need-enum-known-number Inv-loop μ-loop
 enum-known-number c = search needs
 
--- src/lib.rt:121:21
 same-length-2 : tie.Need-same-length-2 Inv-loop μ-loop
 same-length-2 c = c .before .before .before .before .before .before .before .loop .inv .kept
 
--- src/lib.rt:121:21
 returns-2 : tie.Need-returns-2 Inv-loop μ-loop
 returns-2 c =
     reading-refused (c .before .before .before .before .before .before .before .before .before .before .args .s .now) (c .before .before .before .before .before .before .before .before .before .before .args .at) (c .before .before .before .before .before .before .before .before .before .before .args .width) (c .before .before .before .before .before .before .before .before .before .before .args .limit) (c .before .before .before .before .before .before .before .before .before .before .args .n) (c .before .before .before .before .before .before .before .before .before .before .args .numbers .now)
     (reading-above (c .before .before .before .before .before .before .before .before .before .before .args .s .now) (c .before .before .before .before .before .before .before .before .before .before .args .at) (c .before .before .before .before .before .before .before .before .before .before .args .width) (c .before .before .before .before .before .before .before .before .before .before .args .limit) (c .before .before .before .before .before .before .before .before .before .before .args .n) (c .before .before .before .before .before .before .before .before .before .before .args .numbers .now) (c .before .before .number .given .0 .0) (c .before .before .number .given .0 .1 .0) (c .before .before .before .before .before .before .before .loop .inv) (c .before .before .before .before .before .before .loop-test .taken)
     (ap (numberRead (c .before .before .before .before .before .before .before .before .before .before .args .s .now) (c .before .before .before .before .before .before .before .loop .place)) (sym (c .before .before .before .before .before .ending-of .ensures)) ∙ sym (c .before .before .before .before .read-number .ensures) ∙ c .before .before .number .given .1) (c .if1 .taken))
 
--- src/lib.rt:123:17
 mul-numbers : tie.Need-mul-numbers Inv-loop μ-loop
 mul-numbers c = omega (arith, c .before .before .before .before .before .before .before .before .before .before .pre, c .before .before .before .before .before .before .loop-test .taken)
 
--- src/lib.rt:123:17
 slice-write-numbers : tie.Need-slice-write-numbers Inv-loop μ-loop
 slice-write-numbers c = omega (arith, c .before .before .before .before .before .before .before .before .before .before .pre, c .before .before .before .before .before .before .loop-test .taken, c .before .before .before .before .before .before .before .loop .inv .kept)
 
--- src/lib.rt:127:9
 add-i : tie.Need-add-i Inv-loop μ-loop
 add-i c = omega (arith, c .before .before .before .before .before .before .before .before .before .before .pre, c .before .before .before .before .before .before .loop-test .taken)
 
--- src/lib.rt:114:5
 loop-less : tie.Need-loop-less Inv-loop μ-loop
 loop-less c = omega (arith, c .before .before .before .before .before .before .loop-test .taken)
 
--- src/lib.rt:114:5
 loop-again : tie.Need-loop-again Inv-loop μ-loop
 loop-again c =
     reading-one (c .before .before .before .before .before .before .before .before .before .before .args .s .now) (c .before .before .before .before .before .before .before .before .before .before .args .at) (c .before .before .before .before .before .before .before .before .before .before .args .width) (c .before .before .before .before .before .before .before .before .before .before .args .limit) (c .before .before .before .before .before .before .before .before .before .before .args .n) (c .before .before .before .before .before .before .before .before .before .before .args .numbers .now) (c .before .before .number .given .0 .0) (c .before .before .number .given .0 .1 .0) (c .before .before .before .before .before .before .before .loop .inv) (c .before .before .before .before .before .before .loop-test .taken) (c .before .before .before .before .before .before .before .before .before .before .pre .3)
     (ap (numberRead (c .before .before .before .before .before .before .before .before .before .before .args .s .now) (c .before .before .before .before .before .before .before .loop .place)) (sym (c .before .before .before .before .before .ending-of .ensures)) ∙ sym (c .before .before .before .before .read-number .ensures) ∙ c .before .before .number .given .1) (c .if1 .left)
 
--- src/lib.rt:107:1
 same-length-3 : tie.Need-same-length-3 Inv-loop μ-loop
 same-length-3 c = c .before .loop .inv .kept
 
--- src/lib.rt:107:1
 returns-3 : tie.Need-returns-3 Inv-loop μ-loop
 returns-3 c = reading-done (c .before .before .before .before .args .s .now) (c .before .before .before .before .args .at) (c .before .before .before .before .args .width) (c .before .before .before .before .args .limit) (c .before .before .before .before .args .n) (c .before .before .before .before .args .numbers .now) (c .before .loop .inv) (c .loop-test .left)
 

@@ -1,43 +1,33 @@
+-- `sheet_text::read_number` meets its contract.
+-- Assumes nothing.
 use Rattle.sheet_text.proofs.OneNumber.{digits-most, no-digit, not-ended, ended}
 use mathlib.Core.Path.{sym, _∙_}
 use native.Mathlib.Omega.{arith}
 use borrow.Author.Needs.{needs}
 use Rattle.sheet_text.proofs.read_number.Statement.{statement}
 use Rattle.sheet_text.proofs.read_number.Tie as tie
-use Rattle.sheet_text.proofs.read_number.Reads as reads
-use Rattle.sheet_text.proofs.read_number.Lts as lts
-use Rattle.sheet_text.proofs.byte_at.Reads as byte-at-reads
-use Rattle.sheet_text.proofs.read_digits.Reads as read-digits-reads
 
--- src/lib.rt:82:9
 read-digits-requires : tie.Need-read-digits-requires
 read-digits-requires c κs = search needs
 
--- src/lib.rt:86:9
 returns : tie.Need-returns
 returns c = no-digit (c .before .before .before .args .s .now) (c .before .before .before .args .at) (c .before .before .before .args .end) (c .before .read-digits .result .count) (c .before .read-digits .result .value) (c .before .read-digits .ensures .0) (c .before .read-digits .ensures .1) (c .if1 .taken)
 
--- src/lib.rt:88:19
 add-byte-at : tie.Need-add-byte-at
 add-byte-at c = omega (arith, digits-most (c .before .before .before .args .s .now) (c .before .before .before .args .at), c .before .read-digits .ensures .0)
 
--- src/lib.rt:88:8
 byte-at-requires : tie.Need-byte-at-requires
 byte-at-requires c κs = search needs
 
--- src/lib.rt:89:30
 add-t11 : tie.Need-add-t11
 add-t11 c = omega (arith, digits-most (c .before .before .before .before .before .args .s .now) (c .before .before .before .before .before .args .at), c .before .before .before .read-digits .ensures .0)
 
--- src/lib.rt:89:30
 add-t12 : tie.Need-add-t12
 add-t12 c = omega (arith, digits-most (c .before .before .before .before .before .args .s .now) (c .before .before .before .before .before .args .at), c .before .before .before .read-digits .ensures .0)
 
--- src/lib.rt:78:1
 returns-2 : tie.Need-returns-2
 returns-2 c = ended (c .before .before .before .before .before .args .s .now) (c .before .before .before .before .before .args .at) (c .before .before .before .before .before .args .end) (c .before .before .before .read-digits .result .count) (c .before .before .before .read-digits .result .value) (c .before .before .before .read-digits .ensures .0) (c .before .before .before .read-digits .ensures .1) (c .before .before .if1 .left) (sym (c .before .byte-at .ensures) ∙ c .if2 .taken)
 
--- src/lib.rt:78:1
 returns-3 : tie.Need-returns-3
 returns-3 c = not-ended (c .before .before .before .before .before .args .s .now) (c .before .before .before .before .before .args .at) (c .before .before .before .before .before .args .end) (c .before .before .before .read-digits .result .count) (c .before .before .before .read-digits .result .value) (c .before .before .before .read-digits .ensures .0) (c .before .before .before .read-digits .ensures .1) (λ e. c .if2 .left (c .before .byte-at .ensures ∙ e))
 

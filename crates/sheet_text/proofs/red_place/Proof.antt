@@ -1,42 +1,34 @@
+-- `sheet_text::red_place` meets its contract.
+-- Assumes nothing.
 use Rattle.yuv_support.specs.Picture.{placeIn}
 use borrow.Author.Needs.{needs}
 use Rattle.sheet_text.proofs.red_place.Statement.{statement}
 use Rattle.sheet_text.proofs.red_place.Tie as tie
-use Rattle.sheet_text.proofs.red_place.Reads as reads
-use Rattle.sheet_text.proofs.red_place.Lts as lts
 
--- src/lib.rt:369:35
 enum-told : tie.Need-enum-told
 enum-told c = search needs
 
--- src/lib.rt:370:36
 enum-told-2 : tie.Need-enum-told-2
 enum-told-2 c = search needs
 
--- src/lib.rt:371:36
 enum-told-3 : tie.Need-enum-told-3
 enum-told-3 c = search needs
 
--- src/lib.rt:372:35
 enum-told-4 : tie.Need-enum-told-4
 enum-told-4 c = search needs
 
--- src/lib.rt:365:1
 returns : tie.Need-returns
 unfolding placeIn
 returns c = rw (c .enum-told .given .1)
 
--- src/lib.rt:365:1
 returns-2 : tie.Need-returns-2
 unfolding placeIn
 returns-2 c = rw (c .enum-told2 .given .1)
 
--- src/lib.rt:365:1
 returns-3 : tie.Need-returns-3
 unfolding placeIn
 returns-3 c = rw (c .enum-told3 .given .1)
 
--- src/lib.rt:365:1
 returns-4 : tie.Need-returns-4
 unfolding placeIn
 returns-4 c = rw (c .enum-told4 .given .1)

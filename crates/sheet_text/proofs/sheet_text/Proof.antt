@@ -1,3 +1,5 @@
+-- `sheet_text::sheet_text` meets its contract.
+-- Assumes nothing.
 use Rattle.sheet_text.proofs.Answers.{names-missed, values-missed, lines-formed, names-length, values-read, wrote-whole}
 use Rattle.sheet_text.proofs.PlaneLines.{lines-malformed, lined}
 use Rattle.sheet_text.specs.Sheet.{sheetOf}
@@ -7,65 +9,46 @@ use mathlib.Core.Path.{sym, _∙_}
 use borrow.Author.Needs.{needs}
 use Rattle.sheet_text.proofs.sheet_text.Statement.{statement}
 use Rattle.sheet_text.proofs.sheet_text.Tie as tie
-use Rattle.sheet_text.proofs.sheet_text.Reads as reads
-use Rattle.sheet_text.proofs.sheet_text.Lts as lts
-use Rattle.sheet_text.proofs.answer_values.Reads as answer-values-reads
-use Rattle.sheet_text.proofs.has_names.Reads as has-names-reads
-use Rattle.sheet_text.proofs.put_refusal.Reads as put-refusal-reads
-use Rattle.sheet_text.proofs.read_lines.Reads as read-lines-reads
-use Rattle.sheet_text.proofs.values_of.Reads as values-of-reads
 
--- src/lib.rt:575:9
 has-names-requires : tie.Need-has-names-requires
 has-names-requires c κs = search needs
 
--- src/lib.rt:576:9
 put-refusal-requires : tie.Need-put-refusal-requires
 put-refusal-requires c κs = search needs
 
--- src/lib.rt:576:9
 returns : tie.Need-returns
 returns c = wrote-whole (sheetOf (c .before .before .before .before .before .args .input .now)) (names-missed (c .before .before .before .before .before .args .input .now) (sym (c .before .before .before .has-names .ensures) ∙ not-true _ (c .before .before .if1 .taken))) (c .put-refusal .ensures)
 
--- src/lib.rt:579:51
 slice-aggregate-read-lines : tie.Need-slice-aggregate-read-lines
 slice-aggregate-read-lines c = search needs
 
--- src/lib.rt:579:9
 read-lines-requires : tie.Need-read-lines-requires
 read-lines-requires c κs = (names-length (c .before .before .before .before .args .input .now) (sym (c .before .before .has-names .ensures) ∙ not-false _ (c .before .if1 .left)), lit< tt, lit≤ tt, lit≤ tt)
 
--- src/lib.rt:580:22
 enum-known-line : tie.Need-enum-known-line
 enum-known-line c = search needs
 
--- src/lib.rt:581:28
 enum-told : tie.Need-enum-told
 enum-told c = search needs
 
--- src/lib.rt:581:9
 put-refusal-requires-2 : tie.Need-put-refusal-requires-2
 put-refusal-requires-2 c κs = search needs
 
--- src/lib.rt:581:9
 returns-2 : tie.Need-returns-2
 returns-2 c =
     wrote-whole (sheetOf (c .before .before .before .before .before .before .before .before .before .before .args .input .now))
     (values-missed (c .before .before .before .before .before .before .before .before .before .before .args .input .now) (sym (c .before .before .before .before .before .before .before .before .has-names .ensures) ∙ not-false _ (c .before .before .before .before .before .before .before .if1 .left)) (lines-malformed (c .before .before .before .before .before .before .before .before .before .before .args .input .now) 47 7 99999 7 (c .before .before .before .before .before .read-lines .result) (c .before .before .before .before .before .read-lines .ensures .0) (c .before .before .enum-told .given .1)))
     (c .put-refusal2 .ensures)
 
--- src/lib.rt:583:9
 values-of-requires : tie.Need-values-of-requires
 values-of-requires c κs = search needs
 
--- src/lib.rt:584:5
 answer-values-requires : tie.Need-answer-values-requires
 answer-values-requires c κs =
     let l = lined (c .before .before .before .before .before .before .before .before .before .before .before .before .args .input .now) 47 7 99999 7 (c .before .before .before .before .before .before .before .read-lines .last .1 .1 .1 .1 .1 .0) (c .before .before .before .before .line .given .0 .0) (c .before .before .before .before .before .before .before .read-lines .result)
     (names-length (c .before .before .before .before .before .before .before .before .before .before .before .before .args .input .now) (sym (c .before .before .before .before .before .before .before .before .before .before .has-names .ensures) ∙ not-false _ (c .before .before .before .before .before .before .before .before .before .if1 .left))) (c .before .before .before .before .before .before .before .read-lines .ensures .0) (c .before .before .before .before .before .before .before .read-lines .ensures .1) (c .before .before .before .before .line .given .1) in
     record { place = l .end; within = l .within }
 
--- src/lib.rt:571:1
 returns-3 : tie.Need-returns-3
 returns-3 c =
     let l = lined (c .before .before .before .before .before .before .before .before .before .before .before .before .before .args .input .now) 47 7 99999 7 (c .before .before .before .before .before .before .before .before .read-lines .last .1 .1 .1 .1 .1 .0) (c .before .before .before .before .before .line .given .0 .0) (c .before .before .before .before .before .before .before .before .read-lines .result)

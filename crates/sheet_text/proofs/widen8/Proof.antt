@@ -1,10 +1,10 @@
+-- `sheet_text::widen8` meets its contract.
+-- Assumes nothing.
 use Rattle.sheet_text.proofs.Copy.{Copied, copied-none, copied-one, copied-all}
 use Prim.Native.Nat.{_-_}
 use native.Mathlib.Omega.{arith}
 use Rattle.sheet_text.proofs.widen8.Statement.{statement}
 use Rattle.sheet_text.proofs.widen8.Tie as tie
-use Rattle.sheet_text.proofs.widen8.Reads as reads
-use Rattle.sheet_text.proofs.widen8.Lts as lts
 
 abbrev Inv-loop : tie.InvT-loop
 Inv-loop bytes n rgb₀ i₀ rgb i = Copied bytes rgb₀ n rgb i
@@ -12,43 +12,33 @@ Inv-loop bytes n rgb₀ i₀ rgb i = Copied bytes rgb₀ n rgb i
 abbrev μ-loop : tie.MeasureT-loop
 μ-loop bytes n rgb₀ i₀ rgb i = n - i
 
--- src/lib.rt:312:5
 loop-holds : tie.Need-loop-holds Inv-loop μ-loop
 loop-holds c = copied-none (c .args .bytes .now) (c .args .rgb .now) (c .args .n)
 
--- src/lib.rt:313:18
 shared-slice-read-rgb : tie.Need-shared-slice-read-rgb Inv-loop μ-loop
 shared-slice-read-rgb c = omega arith
 
--- src/lib.rt:313:18
 cast-rgb : tie.Need-cast-rgb Inv-loop μ-loop
 cast-rgb c = omega (arith, c .shared-slice-known .given (c .before .before .loop .i))
 
--- src/lib.rt:313:9
 mul-rgb : tie.Need-mul-rgb Inv-loop μ-loop
 mul-rgb c = omega (arith, c .before .before .loop .inv .kept)
 
--- src/lib.rt:313:9
 slice-write-rgb : tie.Need-slice-write-rgb Inv-loop μ-loop
 slice-write-rgb c = omega (arith, c .before .before .loop .inv .kept)
 
--- src/lib.rt:314:9
 add-i : tie.Need-add-i Inv-loop μ-loop
 add-i c = omega arith
 
--- src/lib.rt:312:5
 loop-less : tie.Need-loop-less Inv-loop μ-loop
 loop-less c = omega arith
 
--- src/lib.rt:312:5
 loop-again : tie.Need-loop-again Inv-loop μ-loop
 loop-again c = copied-one (c .before .before .before .args .bytes .now) (c .before .before .before .args .rgb .now) (c .before .before .before .args .n) (c .before .before .loop .rgb) (c .before .before .loop .i) (c .before .before .loop .inv) (c .before .loop-test .taken) (c .before .before .before .pre .0) (c .before .before .before .pre .1)
 
--- src/lib.rt:307:1
 same-length : tie.Need-same-length Inv-loop μ-loop
 same-length c = c .before .loop .inv .kept
 
--- src/lib.rt:307:1
 returns : tie.Need-returns Inv-loop μ-loop
 returns c = copied-all (c .before .before .args .bytes .now) (c .before .before .args .rgb .now) (c .before .before .args .n) (c .before .loop .inv) (c .loop-test .left)
 

@@ -1,14 +1,12 @@
+-- `sheet_text::widest_of` meets its contract.
+-- Assumes nothing.
 use borrow.Author.Tests.{eq-eqb, ne-eqb}
 use Rattle.sheet_text.proofs.widest_of.Statement.{statement}
 use Rattle.sheet_text.proofs.widest_of.Tie as tie
-use Rattle.sheet_text.proofs.widest_of.Reads as reads
-use Rattle.sheet_text.proofs.widest_of.Lts as lts
 
--- src/lib.rt:489:9
 returns : tie.Need-returns
 returns c = rw (eq-eqb (c .before .args .depth) 8 (c .if1 .taken))
 
--- src/lib.rt:485:1
 returns-2 : tie.Need-returns-2
 returns-2 c = rw (ne-eqb (c .before .args .depth) 8 (c .if1 .left))
 
