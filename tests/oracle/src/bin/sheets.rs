@@ -106,7 +106,8 @@ fn table<T: Element + Into<u32>>(c: Codes, width: u32, height: u32, rest: &[u8])
     let (y, u) = (extent(width, height), extent(chroma.0, chroma.1));
     let rgb = extent(width * channels, height);
     let mut picture = vec![T::low(0); rgb.len];
-    T::reference(&Request { codes: c, width, height, y, u, v: u, rgb }, &planes, &mut picture).unwrap();
+    T::reference(&Request { codes: c, width, height, y, u, v: u, rgb }, &planes, &mut picture)
+        .unwrap();
     let mut text = String::from("row column r g b\n");
     let red = if c.order < 2 { 0 } else { 2 };
     for (at, pixel) in picture.chunks(channels as usize).enumerate() {
