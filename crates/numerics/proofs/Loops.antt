@@ -20,6 +20,18 @@ pub record PairsDone (k : Kernel) (n : ℕ) (y pn pf qn qf : List ℕ) (pairs : 
   pub same : length row ≡ length row₀
   pub done : row ≡ overlay (upTo (2 * n * j) (pairsValue k n y pn pf qn qf)) 0 row₀
 
+-- fewer pairs have their samples and their places too, in any row that is as long
+pub fits-within : {n : ℕ} {row row′ y pn pf qn qf : List ℕ} {pairs m : ℕ} → PairsFit n row y pn pf qn qf pairs → length row′ ≡ length row → m ≤ pairs
+    → PairsFit n row′ y pn pf qn qf m
+fits-within {n} fits e l = record {
+  places = rw e (let f = fits .places in omega (arith, mul-le-mul-left (2 * n) l));
+  luma = omega (arith, fits .luma);
+  first-near = omega (arith, fits .first-near);
+  first-far = omega (arith, fits .first-far);
+  third-near = omega (arith, fits .third-near);
+  third-far = omega (arith, fits .third-far);
+}
+
 module _ {k : Kernel} {n : ℕ} {y pn pf qn qf : List ℕ} {pairs : ℕ} {row₀ : List ℕ} where
   pub pairs-begin : PairsDone k n y pn pf qn qf pairs row₀ row₀ 0
   pairs-begin = record { below = omega arith; same = refl; done = rw (mul-zero (2 * n)) (up-none (pairsValue k n y pn pf qn qf) row₀) }
@@ -30,18 +42,10 @@ module _ {k : Kernel} {n : ℕ} {y pn pf qn qf : List ℕ} {pairs : ℕ} {row₀
 
   module _ (fits : PairsFit n row₀ y pn pf qn qf pairs) {row : List ℕ} {j : ℕ} (d : PairsDone k n y pn pf qn qf pairs row₀ row j) (t : j < pairs) where
     room : 2 * n * (j + 1) ≤ length row₀
-    room = let l : j + 1 ≤ pairs = omega arith in let f = fits .places in omega (arith, mul-le-mul-left (2 * n) l)
-
-    -- the next pair has its samples and its places
-    pub next-fits : PairsFit n row y pn pf qn qf (j + 1)
-    next-fits = record {
-      places = rw (d .same) room;
-      luma = omega (arith, fits .luma);
-      first-near = omega (arith, fits .first-near);
-      first-far = omega (arith, fits .first-far);
-      third-near = omega (arith, fits .third-near);
-      third-far = omega (arith, fits .third-far);
-    }
+    room =
+        let l : j + 1 ≤ pairs = omega arith in
+        let within : PairsFit n row₀ y pn pf qn qf (j + 1) = fits-within fits refl l in
+        within .places
 
     next : {row′ : List ℕ} → row′ ≡ overlay (upTo (2 * n * (j + 1)) (pairsValue k n y pn pf qn qf)) 0 row₀ → PairsDone k n y pn pf qn qf pairs row₀ row′ (j + 1)
     next e = record { below = omega arith; same = ap length e ∙ overlay-length _ 0 row₀; done = e }

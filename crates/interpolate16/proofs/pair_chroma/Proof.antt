@@ -53,10 +53,10 @@ columns c =
     (omega (arith, c .before .before .before .column16 .ensures, n j, f j), omega (arith, c .column162 .ensures, n (j + 1), f (j + 1)))
 
 left16-requires : tie.Need-left16-requires
-left16-requires c κs = let b = columns c in (b .0, b .1, c .before .before .before .before .before .before .before .before .pre .2)
+left16-requires c κs = search (needs, columns c)
 
 right16-requires : tie.Need-right16-requires
-right16-requires c κs = let b = columns (c .before) in (b .0, b .1, c .before .before .before .before .before .before .before .before .before .pre .2)
+right16-requires c κs = search (needs, columns (c .before))
 
 returns : tie.Need-returns
 returns c =

@@ -2,30 +2,33 @@
 -- Assumes nothing.
 use borrow.Author.Needs.{needs}
 use native.Mathlib.Omega.{arith}
-use Rattle.numerics.proofs.Products.{product-le}
+use Rattle.numerics.proofs.Products.{Products, products}
 use Rattle.numerics.proofs.inner8.Statement.{statement}
 use Rattle.numerics.proofs.inner8.Tie as tie
 
+small : (c : tie.Start) → Products 255 (c .args .ky) (c .args .y) (c .args .kp) (c .args .p) (c .args .kq) (c .args .q)
+small c = products (c .fits .y .fits) (c .fits .p .fits) (c .fits .q .fits)
+
 mul-taken : tie.Need-mul-taken
-mul-taken c = omega (arith, product-le 255 (c .args .ky) (c .args .y) (c .fits .y .fits), product-le 255 (c .args .kp) (c .args .p) (c .fits .p .fits), product-le 255 (c .args .kq) (c .args .q) (c .fits .q .fits))
+mul-taken c = omega (arith, small c)
 
 mul-taken-2 : tie.Need-mul-taken-2
-mul-taken-2 c = omega (arith, product-le 255 (c .args .ky) (c .args .y) (c .fits .y .fits), product-le 255 (c .args .kp) (c .args .p) (c .fits .p .fits), product-le 255 (c .args .kq) (c .args .q) (c .fits .q .fits))
+mul-taken-2 c = omega (arith, small c)
 
 add-taken : tie.Need-add-taken
-add-taken c = omega (arith, product-le 255 (c .args .ky) (c .args .y) (c .fits .y .fits), product-le 255 (c .args .kp) (c .args .p) (c .fits .p .fits), product-le 255 (c .args .kq) (c .args .q) (c .fits .q .fits))
+add-taken c = omega (arith, small c)
 
 mul-qrshr8 : tie.Need-mul-qrshr8
-mul-qrshr8 c = omega (arith, product-le 255 (c .args .ky) (c .args .y) (c .fits .y .fits), product-le 255 (c .args .kp) (c .args .p) (c .fits .p .fits), product-le 255 (c .args .kq) (c .args .q) (c .fits .q .fits))
+mul-qrshr8 c = omega (arith, small c)
 
 add-qrshr8 : tie.Need-add-qrshr8
-add-qrshr8 c = omega (arith, product-le 255 (c .args .ky) (c .args .y) (c .fits .y .fits), product-le 255 (c .args .kp) (c .args .p) (c .fits .p .fits), product-le 255 (c .args .kq) (c .args .q) (c .fits .q .fits))
+add-qrshr8 c = omega (arith, small c)
 
 sub-qrshr8 : tie.Need-sub-qrshr8
-sub-qrshr8 c = omega (arith, product-le 255 (c .args .ky) (c .args .y) (c .fits .y .fits), product-le 255 (c .args .kp) (c .args .p) (c .fits .p .fits), product-le 255 (c .args .kq) (c .args .q) (c .fits .q .fits))
+sub-qrshr8 c = omega (arith, small c)
 
 qrshr8-requires : tie.Need-qrshr8-requires
-qrshr8-requires c κs = omega (arith, product-le 255 (c .args .ky) (c .args .y) (c .fits .y .fits), product-le 255 (c .args .kp) (c .args .p) (c .fits .p .fits), product-le 255 (c .args .kq) (c .args .q) (c .fits .q .fits))
+qrshr8-requires c κs = omega (arith, small c)
 
 returns : tie.Need-returns
 returns c = search needs

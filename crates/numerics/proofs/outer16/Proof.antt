@@ -2,21 +2,24 @@
 -- Assumes nothing.
 use borrow.Author.Needs.{needs}
 use native.Mathlib.Omega.{arith}
-use Rattle.numerics.proofs.Products.{product-le}
+use Rattle.numerics.proofs.Products.{Products, products}
 use Rattle.numerics.proofs.outer16.Statement.{statement}
 use Rattle.numerics.proofs.outer16.Tie as tie
 
+small : (c : tie.Start) → Products 65535 (c .args .ky) (c .args .y) (c .args .kc) (c .args .c) (c .args .kc) (c .args .c)
+small c = products (c .fits .y .fits) (c .fits .c .fits) (c .fits .c .fits)
+
 mul-qrshr16 : tie.Need-mul-qrshr16
-mul-qrshr16 c = omega (arith, product-le 65535 (c .args .ky) (c .args .y) (c .fits .y .fits), product-le 65535 (c .args .kc) (c .args .c) (c .fits .c .fits))
+mul-qrshr16 c = omega (arith, small c)
 
 mul-qrshr16-2 : tie.Need-mul-qrshr16-2
-mul-qrshr16-2 c = omega (arith, product-le 65535 (c .args .ky) (c .args .y) (c .fits .y .fits), product-le 65535 (c .args .kc) (c .args .c) (c .fits .c .fits))
+mul-qrshr16-2 c = omega (arith, small c)
 
 add-qrshr16 : tie.Need-add-qrshr16
-add-qrshr16 c = omega (arith, product-le 65535 (c .args .ky) (c .args .y) (c .fits .y .fits), product-le 65535 (c .args .kc) (c .args .c) (c .fits .c .fits))
+add-qrshr16 c = omega (arith, small c)
 
 add-qrshr16-2 : tie.Need-add-qrshr16-2
-add-qrshr16-2 c = omega (arith, product-le 65535 (c .args .ky) (c .args .y) (c .fits .y .fits), product-le 65535 (c .args .kc) (c .args .c) (c .fits .c .fits))
+add-qrshr16-2 c = omega (arith, small c)
 
 qrshr16-requires : tie.Need-qrshr16-requires
 qrshr16-requires c κs = search needs
