@@ -1,6 +1,7 @@
 -- `images::next_row` meets its contract.
 -- Assumes nothing.
 use borrow.Author.Needs.{needs}
+use native.Mathlib.Omega.{arith}
 use Rattle.images.proofs.next_row.Statement.{statement}
 use Rattle.images.proofs.next_row.Tie as tie
 
@@ -14,10 +15,10 @@ sub-last : tie.Need-sub-last
 sub-last c = search needs
 
 returns : tie.Need-returns
-returns c = search needs
+returns c = omega arith
 
 returns-2 : tie.Need-returns-2
-returns-2 c = search needs
+returns-2 c = omega arith
 
 pub next-row-spec : {M : Type 1} → statement M
 next-row-spec = tie.close (tie.spec add-next add-last sub-last returns returns-2)

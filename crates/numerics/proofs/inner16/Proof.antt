@@ -31,7 +31,7 @@ qrshr16-requires : tie.Need-qrshr16-requires
 qrshr16-requires c κs = search needs
 
 returns : tie.Need-returns
-returns c = search needs
+returns c = c .qrshr16 .ensures
 
 pub inner16-spec : {M : Type 1} → statement M
 inner16-spec =

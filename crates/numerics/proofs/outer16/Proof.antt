@@ -25,7 +25,7 @@ qrshr16-requires : tie.Need-qrshr16-requires
 qrshr16-requires c κs = search needs
 
 returns : tie.Need-returns
-returns c = search needs
+returns c = c .qrshr16 .ensures
 
 pub outer16-spec : {M : Type 1} → statement M
 outer16-spec =

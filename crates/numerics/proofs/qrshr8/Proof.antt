@@ -1,6 +1,7 @@
 -- `numerics::qrshr8` meets its contract: the quotient fits 16 bits.
 -- Assumes nothing.
 use borrow.Author.Needs.{needs}
+use native.Mathlib.Omega.{arith}
 use Rattle.numerics.proofs.qrshr8.Statement.{statement}
 use Rattle.numerics.proofs.qrshr8.Tie as tie
 
@@ -14,7 +15,7 @@ at-most-255-requires : tie.Need-at-most-255-requires
 at-most-255-requires c κs = search needs
 
 returns : tie.Need-returns
-returns c = search needs
+returns c = omega arith
 
 pub qrshr8-spec : {M : Type 1} → statement M
 qrshr8-spec = tie.close (tie.spec cast-saturating-sub16 saturating-sub16-requires at-most-255-requires returns)
