@@ -1,22 +1,20 @@
 -- The text of a sheet, question by question: what each "no" prints, and where all are answered the table of the planes that were read.
 -- Assumes nothing.
-use mathlib.Core.Path.{_≡_, refl, sym, ap, _∙_, subst⁻¹}
+use mathlib.Core.Path.{_≡_, refl, sym, _∙_, subst⁻¹}
 use mathlib.Core.Bool.{Bool, true, false, cond, _&&_, and-eq-true-iff}
 use mathlib.Core.List.{List, [], _∷_}
-use mathlib.Core.Logic.{_⊎_, inl, inr}
-use Prim.Native.Nat.{ℕ, _+_, _≤_, _<_}
+use Prim.Native.Nat.{ℕ, _≤_, _<_}
 use native.Mathlib.Omega.{arith}
 use borrow.Author.Tests.{leb-true, le-leb, lt-leb, eqb-true}
 use lib.Dec.{T, leb, eqb, lit<}
-use lib.ListN.{length, take, getD, List·getD-eq-default}
-use lib.Seq.{sets, getD-take}
+use lib.ListN.{length, getD}
+use lib.Seq.{sets}
 use Rattle.yuv_support.specs.Settings.{among, depths}
 use Rattle.yuv_support.specs.Questions.{ask, verdict, decoded, codesKnown}
-use Rattle.yuv_support.proofs.Overlay.{below-or-not}
-use Rattle.yuv_support.proofs.Tests.{passed, both}
+use Rattle.yuv_support.proofs.Tests.{passed}
 use Rattle.sheet_text.specs.declared.Values.{Values}
 use Rattle.sheet_text.specs.Text.{Wrote}
-use Rattle.sheet_text.specs.Numbers.{byteAt, numberAt, allBelow, begin, areLines, numbersFrom}
+use Rattle.sheet_text.specs.Numbers.{byteAt, numberAt, begin, areLines}
 use Rattle.sheet_text.specs.Sheet.{
   names,
   hasName,
@@ -25,10 +23,7 @@ use Rattle.sheet_text.specs.Sheet.{
   valuesOf,
   codesOf,
   lumaCount,
-  chromaCount,
   lumaBegin,
-  uBegin,
-  vBegin,
   widest,
   isSmall,
   hasPlanes,
@@ -41,10 +36,11 @@ use Rattle.sheet_text.specs.Sheet.{
   sheetOf,
 }
 use Rattle.sheet_text.specs.Shown.{Fit, Samples, planesFrame}
-use Rattle.sheet_text.specs.Answer.{PlanesRead, valuesIn, restText, valuesText}
+use Rattle.sheet_text.specs.Answer.{AfterValues, Planes, valuesIn, restText, valuesText}
 use Rattle.sheet_text.proofs.Sizes.{luma-count-most, chroma-count-most}
+use Rattle.sheet_text.proofs.OneNumber.{inside}
 use Rattle.sheet_text.proofs.ManyNumbers.{all-below}
-use Rattle.sheet_text.proofs.PlaneLines.{numbers-at, lines-most}
+use Rattle.sheet_text.proofs.PlaneLines.{Lined, Answered, number-read, lines-most}
 
 -- ---- question 15 of the rest
 
@@ -52,25 +48,16 @@ pub not-small : (s : List ℕ) (v : Values) → isSmall v ≡ false → restText
 unfolding restFormed
 not-small s v e = rw e
 
-pub not-whole : (s : List ℕ) (v : Values) → isSmall v ≡ true → (hasPlanes s v && isWhole s v) ≡ false → restText s v ≡ refusal 15
-unfolding restFormed
-not-whole s v e f = rw (e, f)
-
-pub rest-table : (s : List ℕ) (v : Values) (y u w : List ℕ) → isSmall v ≡ true → (hasPlanes s v && isWhole s v) ≡ true → PlanesRead s v y u w
-    → restText s v ≡ table (decoded (codesOf v)) (planesFrame v y u w)
-unfolding restFormed sheetFrame
-rest-table s v y u w e f r = rw (e, f, r .luma, r .cb, r .cr)
-
 pub small-sides : (v : Values) → isSmall v ≡ true → (1 ≤ v .width) × (v .width ≤ 64) × (1 ≤ v .height) × (v .height ≤ 64) × (v .matrix ≤ 5)
 small-sides v e =
-    let a = and-eq-true-iff (leb 1 (v .width) && leb (v .width) 64 && leb 1 (v .height) && leb (v .height) 64) (leb (v .matrix) 5) .0 e in
-    let b = and-eq-true-iff (leb 1 (v .width) && leb (v .width) 64 && leb 1 (v .height)) (leb (v .height) 64) .0 (a .0) in
-    let c = and-eq-true-iff (leb 1 (v .width) && leb (v .width) 64) (leb 1 (v .height)) .0 (b .0) in
-    let d = and-eq-true-iff (leb 1 (v .width)) (leb (v .width) 64) .0 (c .0) in
+    let a = and-eq-true-iff (leb 1 (v .width) && leb (v .width) 64 && leb 1 (v .height) && leb (v .height) 64) _ .0 e in
+    let b = and-eq-true-iff (leb 1 (v .width) && leb (v .width) 64 && leb 1 (v .height)) _ .0 (a .0) in
+    let c = and-eq-true-iff (leb 1 (v .width) && leb (v .width) 64) _ .0 (b .0) in
+    let d = and-eq-true-iff (leb 1 (v .width)) _ .0 (c .0) in
     (leb-true _ _ (d .0), leb-true _ _ (d .1), leb-true _ _ (c .1), leb-true _ _ (b .1), leb-true _ _ (a .1))
 
-pub small-fits : (v : Values) → isSmall v ≡ true → v .sampling ≤ 1 → T (codesKnown (among (v .depth) depths) (codesOf v) .holds) → Fit depths v
-small-fits v e hs k =
+pub small-fits : {v : Values} → isSmall v ≡ true → v .sampling ≤ 1 → T (codesKnown (among (v .depth) depths) (codesOf v) .holds) → Fit depths v
+small-fits {v} e hs k =
     let t = small-sides v e in
     let p = passed (codesKnown (among (v .depth) depths) (codesOf v) .holds) k in
     let a = and-eq-true-iff (leb (v .order) 3) _ .0 p in
@@ -88,19 +75,37 @@ small-fits v e hs k =
       height = t .3;
     }
 
-pub planes-samples : (s : List ℕ) (v : Values) (y u w : List ℕ) → v .width ≤ 64 → v .height ≤ 64 → (hasPlanes s v && isWhole s v) ≡ true
-    → PlanesRead s v y u w → length y ≡ 4096 → length u ≡ 4096 → length w ≡ 4096 → Samples (widest v) v y u w
-planes-samples s v y u w hw hh e r ly lu lw =
-    let a = and-eq-true-iff (hasPlanes s v) (isWhole s v) .0 e in
-    let b = and-eq-true-iff (areLines s (lumaBegin s) (v .width) (widest v) (lumaCount v) && _) _ .0 (a .0) in
-    let c = and-eq-true-iff (areLines s (lumaBegin s) (v .width) (widest v) (lumaCount v)) _ .0 (b .0) in
-    let n = luma-count-most v hw hh in
-    let m = chroma-count-most v hw hh in
-    record {
-      luma = lines-most s (lumaBegin s) (v .width) (widest v) (lumaCount v) y (omega arith) (c .0) (r .luma);
-      cb = lines-most s (uBegin s v) _ (widest v) (chromaCount v) u (omega arith) (c .1) (r .cb);
-      cr = lines-most s (vBegin s v) _ (widest v) (chromaCount v) w (omega arith) (b .1) (r .cr);
-    }
+-- the planes may be read
+pub small-asks : {s : List ℕ} {at : ℕ} {v : Values} {y u w : List ℕ} → AfterValues s at → isSmall v ≡ true → length y ≡ 4096 → length u ≡ 4096 → length w ≡ 4096
+    → Planes s at v y u w
+small-asks {s} {at} {v} after e ly lu lw =
+    let t = small-sides v e in
+    record { after = after; width-least = t .0; width = t .1; height = t .3; luma = ly; cb = lu; cr = lw }
+
+-- what their reading answers, by `Answered`
+module _ {s : List ℕ} {v : Values} {r : Bool} {y u w : List ℕ} (small : isSmall v ≡ true) (answered : Answered s v r y u w) where
+  pub not-whole : r ≡ false → restText s v ≡ refusal 15
+  unfolding restFormed
+  not-whole e = rw (small, ← answered .0, e)
+
+  pub rest-table : r ≡ true → restText s v ≡ table (decoded (codesOf v)) (planesFrame v y u w)
+  unfolding restFormed sheetFrame
+  rest-table e = let p = answered .1 e in rw (small, ← answered .0, e, p .luma, p .cb, p .cr)
+
+  pub planes-samples : r ≡ true → length y ≡ 4096 → length u ≡ 4096 → length w ≡ 4096 → Samples (widest v) v y u w
+  planes-samples e ly lu lw =
+      let p = answered .1 e in
+      let t = small-sides v small in
+      let a = and-eq-true-iff (hasPlanes s v) (isWhole s v) .0 (sym (answered .0) ∙ e) in
+      let b = and-eq-true-iff (areLines s (lumaBegin s) (v .width) (widest v) (lumaCount v) && _) _ .0 (a .0) in
+      let c = and-eq-true-iff (areLines s (lumaBegin s) (v .width) (widest v) (lumaCount v)) _ .0 (b .0) in
+      let n = luma-count-most v (t .1) (t .3) in
+      let m = chroma-count-most v (t .1) (t .3) in
+      record {
+        luma = lines-most _ _ _ (omega arith) (c .0) (p .luma);
+        cb = lines-most _ _ _ (omega arith) (c .1) (p .cb);
+        cr = lines-most _ _ _ (omega arith) (b .1) (p .cr);
+      }
 
 -- ---- questions 1 and 2
 
@@ -137,25 +142,22 @@ pub lines-formed : (s : List ℕ) → hasNames s ≡ true → areLines s 47 7 99
 unfolding sheetOf sheetQuestions verdict hasValues
 lines-formed s e f =
     rw (e, f)
-    (asked (leb (valuesOf s .sampling) 1) (codesKnown (among (valuesOf s .depth) depths) (codesOf (valuesOf s)) .holds) (restFormed s (valuesOf s))
-    (table (decoded (codesOf (valuesOf s))) (sheetFrame s (valuesOf s))))
+    (asked (leb (valuesOf s .sampling) 1) (codesKnown (among (valuesOf s .depth) depths) (codesOf (valuesOf s)) .holds) (restFormed s (valuesOf s)) _)
 
 -- the line of names is 47 bytes long, its last byte being 10
 pub names-length : (s : List ℕ) → hasNames s ≡ true → 47 ≤ length s
 unfolding hasNames
-names-length s e = go (eqb-true (byteAt s 46) (byteAt names 46) (all-below (hasName s) 47 46 (lit< tt) e)) (below-or-not 46 (length s))
-  where
-    go : byteAt s 46 ≡ 10 → (46 < length s) ⊎ (length s ≤ 46) → 47 ≤ length s
-    go q (inl h) = omega arith
-    go q (inr h) = let z : byteAt s 46 ≡ 0 = List·getD-eq-default s 0 h in absurd (omega arith)
+names-length s e =
+    let q : byteAt s 46 ≡ 10 = eqb-true (byteAt s 46) (byteAt names 46) (all-below (hasName s) {i = 46} (lit< tt) e) in
+    omega (arith, inside s 46 (omega arith))
 
 -- the seven numbers are the values
-pub values-read : (s numbers : List ℕ) → take 7 numbers ≡ numbersFrom s 47 7 → valuesIn numbers ≡ valuesOf s
+pub values-read : {s numbers : List ℕ} {limit next : ℕ} → Lined s 47 7 limit 7 numbers next → valuesIn numbers ≡ valuesOf s
 unfolding valuesOf
-values-read s numbers e = rw (at 0 (lit< tt), at 1 (lit< tt), at 2 (lit< tt), at 3 (lit< tt), at 4 (lit< tt), at 5 (lit< tt), at 6 (lit< tt))
+values-read {s} {numbers} l = rw (at 0 (lit< tt), at 1 (lit< tt), at 2 (lit< tt), at 3 (lit< tt), at 4 (lit< tt), at 5 (lit< tt), at 6 (lit< tt))
   where
     at : (i : ℕ) → i < 7 → getD numbers i 0 ≡ numberAt s (begin s 47 i)
-    at i h = sym (getD-take 7 numbers i 0 h) ∙ ap (λ (t : List ℕ). getD t i 0) e ∙ numbers-at s 47 7 i h
+    at i h = number-read s 47 numbers (l .read) h
 
 -- ---- the whole output
 

@@ -2,26 +2,25 @@
 -- at planes that are just long enough. One law for both element widths: `known` are the depths of the width.
 -- Assumes nothing.
 use mathlib.Core.Path.{_≡_, refl, sym, ap, _∙_}
-use mathlib.Core.Bool.{Bool, true, false, cond, _&&_}
-use mathlib.Core.List.{List, [], _∷_}
+use mathlib.Core.Bool.{true}
+use mathlib.Core.List.{List}
 use Prim.Native.Nat.{ℕ, zero, suc, _+_, _-_, _*_, _≤_, _<_}
 use native.Mathlib.Nat.{mul-le-mul, le-refl}
 use native.Mathlib.Omega.{arith}
 use borrow.Author.Tests.{le-leb, eq-eqb, ne-eqb}
-use lib.Dec.{T, leb, eqb}
-use lib.Ieee.{Float}
+use lib.Dec.{T}
 use lib.ListN.{length, take, getD}
 use lib.Seq.{length-take-le, take-all}
 use Rattle.yuv_support.specs.declared.YuvRange.{YuvRange}
+use Rattle.yuv_support.specs.declared.YuvSourceChannels.{YuvSourceChannels}
 use Rattle.yuv_support.specs.declared.Codes.{Codes}
 use Rattle.yuv_support.specs.declared.YuvPlanarImage.{YuvPlanarImage}
 use Rattle.yuv_support.specs.Settings.{samplingOf, orderOf, rangeOf, matrixOf, among, depths, depths8, depths16}
 use Rattle.yuv_support.specs.Coefficients.{usable}
-use Rattle.yuv_support.specs.Blend.{Frame, frameOf, chromaWidth, chromaHeight}
-use Rattle.yuv_support.specs.Component.{Component, componentAt}
+use Rattle.yuv_support.specs.Blend.{frameOf, chromaWidth, chromaHeight}
 use Rattle.yuv_support.specs.Picture.{channelsOf, picture, band}
-use Rattle.yuv_support.specs.Questions.{accepted, verdict, questionsOf, conversionQuestions, decoded, needed}
-use Rattle.yuv_support.specs.Conversion.{requestFor, answerTo, destinationAfter}
+use Rattle.yuv_support.specs.Questions.{accepted, verdict, questionsOf, decoded, needed}
+use Rattle.yuv_support.specs.Conversion.{answerTo, destinationAfter}
 use Rattle.yuv_support.proofs.Picture.{three-or-four-channels, component-in}
 use Rattle.yuv_support.proofs.Rows.{row-fits}
 use Rattle.yuv_support.proofs.Tests.{passed}
@@ -41,7 +40,7 @@ named-usable d r (suc (suc (suc (suc zero)))) h = refl
 named-usable d r (suc (suc (suc (suc (suc zero))))) h = refl
 named-usable d r (suc (suc (suc (suc (suc (suc m)))))) h = absurd (omega arith)
 
-module _ (known : List ℕ) (v : Values) (fit : Fit known v) where
+module _ {known : List ℕ} {v : Values} (fit : Fit known v) where
   row-room : v .width * channelsOf (orderOf (v .order)) ≤ 256
   row-room = mul-le-mul (fit .width) (three-or-four-channels (orderOf (v .order)) .1)
 
@@ -54,109 +53,131 @@ module _ (known : List ℕ) (v : Values) (fit : Fit known v) where
 
   module _ (y u w old : List ℕ) (ly : length y ≡ lumaCount v) (lu : length u ≡ chromaCount v) (lw : length w ≡ chromaCount v)
       (lo : length old ≡ 16384) where
-    pub small-accepted : answerTo known (codesOf v) (imageOf v) y u w (strideOf v) old ≡ accepted
+    small-accepted : answerTo known (codesOf v) (imageOf v) y u w (strideOf v) old ≡ accepted
     unfolding answerTo questionsOf verdict
     small-accepted =
-        let chroma = close-rows (chromaWidth (v .width)) (chromaHeight (samplingOf (v .sampling)) (v .height))
-        (chroma-height-least (samplingOf (v .sampling)) (v .height) (fit .height-least)) in
+        let wide = chromaWidth (v .width) in
+        let rows = chromaHeight (samplingOf (v .sampling)) (v .height) in
+        let chroma = close-rows wide rows (chroma-height-least (samplingOf (v .sampling)) (v .height) (fit .height-least)) in
         let luma = close-rows (v .width) (v .height) (fit .height-least) in
         let r = rgb-room in
-        let q1 = le-leb (v .sampling) 1 (fit .sampling) in
-        let q2 = le-leb (v .order) 3 (fit .order) in
-        let q2′ = le-leb (v .range) 1 (fit .range) in
-        let q2″ = le-leb (v .matrix) 6 (let h : v .matrix ≤ 6 = omega (arith, fit .matrix) in h) in
-        let q2‴ = passed (among (v .depth) known) (fit .depth) in
-        let q3 = le-leb 1 (v .width) (fit .width-least) in
-        let q3′ = le-leb 1 (v .height) (fit .height-least) in
-        let q4 = le-leb (v .width) 16384 (let h : v .width ≤ 16384 = omega (arith, fit .width) in h) in
-        let q4′ = le-leb (v .height) 16384 (let h : v .height ≤ 16384 = omega (arith, fit .height) in h) in
-        let q5 = le-leb (needed (strideOf v) (strideOf v) (v .height)) (length old) (omega arith) in
-        let q6 = le-leb (strideOf v) (strideOf v) (le-refl (strideOf v)) in
-        let q7 = le-leb (v .width) (v .width) (le-refl (v .width)) in
-        let q8 = le-leb (needed (v .width) (v .width) (v .height)) (length y) (omega arith) in
-        let q9 = le-leb (chromaWidth (v .width)) (chromaWidth (v .width)) (le-refl (chromaWidth (v .width))) in
-        let q10 = le-leb (needed (chromaWidth (v .width)) (chromaWidth (v .width)) (chromaHeight (samplingOf (v .sampling)) (v .height))) (length u) (omega arith) in
-        let q12 = le-leb (needed (chromaWidth (v .width)) (chromaWidth (v .width)) (chromaHeight (samplingOf (v .sampling)) (v .height))) (length w) (omega arith) in
-        let q13 = named-usable (v .depth) (rangeOf (v .range)) (v .matrix) (fit .matrix) in
-        rw (q1, q2, q2′, q2″, q2‴, q3, q3′, q4, q4′, q5, q6, q7, q8, q9, q10, q12, q13)
+        rw (
+          le-leb _ _ (fit .sampling),
+          le-leb _ _ (fit .order),
+          le-leb _ _ (fit .range),
+          le-leb (v .matrix) 6 (omega (arith, fit .matrix)),
+          passed (among (v .depth) known) (fit .depth),
+          le-leb _ _ (fit .width-least),
+          le-leb _ _ (fit .height-least),
+          le-leb (v .width) 16384 (omega (arith, fit .width)),
+          le-leb (v .height) 16384 (omega (arith, fit .height)),
+          le-leb (needed (strideOf v) (strideOf v) (v .height)) (length old) (omega arith),
+          le-leb _ _ (le-refl (strideOf v)),
+          le-leb _ _ (le-refl (v .width)),
+          le-leb (needed (v .width) (v .width) (v .height)) (length y) (omega arith),
+          le-leb _ _ (le-refl wide),
+          le-leb (needed wide wide rows) (length u) (omega arith),
+          le-leb (needed wide wide rows) (length w) (omega arith),
+          named-usable (v .depth) (rangeOf (v .range)) (v .matrix) (fit .matrix),
+        )
 
-    pub small-shows : (new : List ℕ) → new ≡ destinationAfter known (codesOf v) (imageOf v) y u w (strideOf v) old
+    small-shows : (new : List ℕ) → new ≡ destinationAfter known (codesOf v) (imageOf v) y u w (strideOf v) old
         → Shows (decoded (codesOf v)) (frameOf (imageOf v) y u w) (strideOf v) new
     unfolding destinationAfter picture
     small-shows new e c row column hr hc =
         let a : answerTo known (codesOf v) (imageOf v) y u w (strideOf v) old .number ≡ 0 = ap (λ r. r .number) small-accepted in
         let r = rgb-room in
-        let p : new ≡ band (decoded (codesOf v)) (frameOf (imageOf v) y u w) (strideOf v) 0 (v .height) old =
-        e ∙ rw (eq-eqb _ 0 a) refl in
+        let p : new ≡ band (decoded (codesOf v)) (frameOf (imageOf v) y u w) (strideOf v) 0 (v .height) old = e ∙ rw (eq-eqb _ 0 a) in
         rw p
         (component-in (decoded (codesOf v)) (frameOf (imageOf v) y u w) (strideOf v) 0 (v .height) old (le-refl (strideOf v)) c row column
         (omega arith) (omega arith) hc
         (row-fits (strideOf v) (strideOf v) (v .height) row (length old) (omega arith) hr))
 
-  pub luma-most : lumaCount v ≤ 4096
+  luma-most : lumaCount v ≤ 4096
   luma-most = luma-count-most v (fit .width) (fit .height)
 
-  pub chroma-most : chromaCount v ≤ 4096
+  chroma-most : chromaCount v ≤ 4096
   chroma-most = chroma-count-most v (fit .width) (fit .height)
 
-  -- what a conversion leaves of the first samples of longer lists, its arguments being known by their equations
-  pub planes-shown : (y u w Y U W old new : List ℕ) (n m : ℕ) (codes : Codes) (image : YuvPlanarImage) (stride : ℕ)
-      → n ≡ lumaCount v → m ≡ chromaCount v → codes ≡ codesOf v → image ≡ imageOf v → stride ≡ strideOf v
-      → take n Y ≡ take n y → take m U ≡ take m u → take m W ≡ take m w
-      → length Y ≡ 4096 → length U ≡ 4096 → length W ≡ 4096 → length old ≡ 16384
+-- ---- the samples, copied to the begins of arrays
+
+counted : {limit n k : ℕ} {xs : List ℕ} → k ≡ n → n ≤ 4096 → Most limit n xs → (k ≤ length xs) × (k ≤ 4096) × ((i : ℕ) → i < k → getD xs i 0 ≤ limit)
+counted e h m = rw e ((m .long, h, m .most))
+
+-- each plane may be copied, its samples being counted by a number that is their count
+module _ {known : List ℕ} {limit l k : ℕ} {v : Values} {y u w : List ℕ} (asked : Fit known v × Samples limit v y u w × (l ≡ 16384)) where
+  pub luma-asks : k ≡ lumaCount v → (k ≤ length y) × (k ≤ 4096) × ((i : ℕ) → i < k → getD y i 0 ≤ limit)
+  luma-asks e = counted e (luma-most (asked .0)) (asked .1 .luma)
+
+  pub cb-asks : k ≡ chromaCount v → (k ≤ length u) × (k ≤ 4096) × ((i : ℕ) → i < k → getD u i 0 ≤ limit)
+  cb-asks e = counted e (chroma-most (asked .0)) (asked .1 .cb)
+
+  pub cr-asks : k ≡ chromaCount v → (k ≤ length w) × (k ≤ 4096) × ((i : ℕ) → i < k → getD w i 0 ≤ limit)
+  cr-asks e = counted e (chroma-most (asked .0)) (asked .1 .cr)
+
+pub record Narrowed (known : List ℕ) (v : Values) (y u w : List ℕ) (n m : ℕ) (Y U W : List ℕ) : Type 0 where
+  pub fit : Fit known v
+  pub luma-count : n ≡ lumaCount v
+  pub chroma-count : m ≡ chromaCount v
+  pub luma : take n Y ≡ take n y
+  pub cb : take m U ≡ take m u
+  pub cr : take m W ≡ take m w
+  pub luma-long : length Y ≡ 4096
+  pub cb-long : length U ≡ 4096
+  pub cr-long : length W ≡ 4096
+
+part : (xs : List ℕ) {n k : ℕ} → k ≡ n → n ≤ 4096 → length xs ≡ 4096 → (k ≤ length xs) × (k ≡ length (take k xs))
+part xs {n} {k} e h l = let b : k ≤ length xs = omega arith in (b, sym (length-take-le k xs b))
+
+module _ {known : List ℕ} {v : Values} {y u w : List ℕ} {n m : ℕ} {Y U W : List ℕ} (d : Narrowed known v y u w n m Y U W) where
+  -- the parts that are lent, with their lengths
+  pub luma-part : (n ≤ length Y) × (n ≡ length (take n Y))
+  luma-part = part Y (d .luma-count) (luma-most (d .fit)) (d .luma-long)
+
+  pub cb-part : (m ≤ length U) × (m ≡ length (take m U))
+  cb-part = part U (d .chroma-count) (chroma-most (d .fit)) (d .cb-long)
+
+  pub cr-part : (m ≤ length W) × (m ≡ length (take m W))
+  cr-part = part W (d .chroma-count) (chroma-most (d .fit)) (d .cr-long)
+
+  -- what a conversion of them leaves, its other arguments being known by their equations
+  pub planes-shown : {codes : Codes} {image : YuvPlanarImage} {order : YuvSourceChannels} {stride : ℕ} (old : List ℕ) {new : List ℕ}
+      → codes ≡ codesOf v → image ≡ imageOf v → order ≡ orderOf (v .order) → stride ≡ v .width * channelsOf order → length old ≡ 16384
       → new ≡ destinationAfter known codes image (take n Y) (take m U) (take m W) stride old
       → Shows (decoded (codesOf v)) (planesFrame v y u w) (strideOf v) new
-  planes-shown y u w Y U W old new n m codes image stride en em ec ei es ey eu ew lY lU lW lo e =
-      let hn : n ≤ length Y = let b = luma-most in omega arith in
-      let hm : m ≤ length U = let b = chroma-most in omega arith in
-      let hm′ : m ≤ length W = let b = chroma-most in omega arith in
-      let ln : length (take n y) ≡ lumaCount v = ap length (sym ey) ∙ length-take-le n Y hn ∙ en in
-      let lm : length (take m u) ≡ chromaCount v = ap length (sym eu) ∙ length-take-le m U hm ∙ em in
-      let lm′ : length (take m w) ≡ chromaCount v = ap length (sym ew) ∙ length-take-le m W hm′ ∙ em in
-      let d : new ≡ destinationAfter known (codesOf v) (imageOf v) (take n y) (take m u) (take m w) (strideOf v) old =
-      e ∙ rw (ec, ei, es, ey, eu, ew) refl in
-      rw (← en, ← em) (small-shows (take n y) (take m u) (take m w) old ln lm lm′ lo new d)
+  planes-shown old {new} ec ei eo es lo e =
+      let ly : length (take n y) ≡ lumaCount v = ap length (sym (d .luma)) ∙ sym (luma-part .1) ∙ d .luma-count in
+      let lu : length (take m u) ≡ chromaCount v = ap length (sym (d .cb)) ∙ sym (cb-part .1) ∙ d .chroma-count in
+      let lw : length (take m w) ≡ chromaCount v = ap length (sym (d .cr)) ∙ sym (cr-part .1) ∙ d .chroma-count in
+      let p : new ≡ destinationAfter known (codesOf v) (imageOf v) (take n y) (take m u) (take m w) (strideOf v) old =
+      e ∙ rw (ec, ei, es, eo, d .luma, d .cb, d .cr) refl in
+      rw (← d .luma-count, ← d .chroma-count) (small-shows (d .fit) (take n y) (take m u) (take m w) old ly lu lw lo new p)
 
 -- two lists of n elements whose first n are the same
 pub whole-same : (n : ℕ) (a b : List ℕ) → length a ≡ n → length b ≡ n → take n a ≡ take n b → a ≡ b
 whole-same n a b la lb e =
     sym (take-all n a (let h : length a ≤ n = omega arith in h)) ∙ e ∙ take-all n b (let h : length b ≤ n = omega arith in h)
 
--- the samples of a plane, counted by a number that is their count
-pub most-counted : (limit n k : ℕ) (xs : List ℕ) → k ≡ n → n ≤ 4096 → Most limit n xs
-    → (k ≤ length xs) × (k ≤ 4096) × ((i : ℕ) → i < k → getD xs i 0 ≤ limit)
-most-counted limit n k xs e h m = rw e ((m .long, h, m .most))
-
 -- ---- the two element widths
 
-pub fit-8 : (v : Values) → Fit depths v → v .depth ≡ 8 → Fit depths8 v
-fit-8 v f e = record {
-  sampling = f .sampling;
-  order = f .order;
-  range = f .range;
-  matrix = f .matrix;
-  depth = rw e tt;
-  width-least = f .width-least;
-  width = f .width;
-  height-least = f .height-least;
-  height = f .height;
-}
+module _ {v : Values} {y u w : List ℕ} {l : ℕ} (asked : Fit depths v × Samples (widest v) v y u w × (l ≡ 16384)) where
+  fit : {known : List ℕ} → T (among (v .depth) known) → Fit known v
+  fit d =
+      let f = asked .0 in
+      record {
+        sampling = f .sampling;
+        order = f .order;
+        range = f .range;
+        matrix = f .matrix;
+        depth = d;
+        width-least = f .width-least;
+        width = f .width;
+        height-least = f .height-least;
+        height = f .height;
+      }
 
-pub fit-16 : (v : Values) → Fit depths v → (v .depth ≡ 8 → ⊥) → Fit depths16 v
-fit-16 v f h = record {
-  sampling = f .sampling;
-  order = f .order;
-  range = f .range;
-  matrix = f .matrix;
-  depth = let e = ne-eqb (v .depth) 8 h in rw e at (f .depth);
-  width-least = f .width-least;
-  width = f .width;
-  height-least = f .height-least;
-  height = f .height;
-}
+  pub asked-8 : v .depth ≡ 8 → Fit depths8 v × Samples 255 v y u w × (l ≡ 16384)
+  asked-8 e = (fit (rw e tt), rw (eq-eqb (v .depth) 8 e) at (asked .1), asked .2)
 
-pub widest-8 : (v : Values) → v .depth ≡ 8 → widest v ≡ 255
-widest-8 v e = rw (eq-eqb (v .depth) 8 e)
-
-pub widest-16 : (v : Values) → (v .depth ≡ 8 → ⊥) → widest v ≡ 65535
-widest-16 v h = rw (ne-eqb (v .depth) 8 h)
+  pub asked-16 : (v .depth ≡ 8 → ⊥) → Fit depths16 v × Samples 65535 v y u w × (l ≡ 16384)
+  asked-16 h = let e = ne-eqb (v .depth) 8 h in (fit (rw e at (asked .0 .depth)), rw e at (asked .1), asked .2)

@@ -1,6 +1,6 @@
 -- Laws of one number: a turn of the loop over its digits, and the place after a number that is well formed.
 -- Assumes nothing.
-use mathlib.Core.Path.{_≡_, refl, sym, ap, _∙_}
+use mathlib.Core.Path.{_≡_, refl, sym, _∙_}
 use mathlib.Core.Bool.{Bool, true, false, cond, and-eq-true-iff, and-false}
 use mathlib.Core.List.{List}
 use mathlib.Core.Logic.{_⊎_, inl, inr}
@@ -8,7 +8,7 @@ use Prim.Native.Nat.{ℕ, zero, suc, _+_, _-_, _*_, _^_, _≤_, _<_}
 use native.Mathlib.Nat.{pow-suc, pow-le-pow-right}
 use native.Mathlib.Omega.{arith}
 use borrow.Author.Tests.{leb-true, eqb-true, le-leb, lt-leb, eq-eqb, ne-eqb}
-use lib.Dec.{leb, eqb, lit<}
+use lib.Dec.{leb, lit<}
 use lib.ListN.{length, List·getD-eq-default}
 use Rattle.yuv_support.proofs.Overlay.{below-or-not}
 use Rattle.sheet_text.specs.declared.Number.the-variants.{Value, NoNumber}
@@ -32,9 +32,9 @@ small-bound {s} {at} {value} {count} p =
     let m : 10 ^ count ≤ 10 ^ 5 = pow-le-pow-right (let l : 0 < 10 = lit< tt in l) (p .most) in
     omega (arith, p .small)
 
-pub passed-none : (s : List ℕ) (at : ℕ) → Passed s at 0 0
+pub passed-none : {s : List ℕ} {at : ℕ} → Passed s at 0 0
 unfolding decimal
-passed-none s at = record {
+passed-none {s} {at} = record {
   most = omega arith;
   digits = let e : at + 0 ≡ at = omega arith in rw e (omega arith);
   number = refl;
@@ -59,22 +59,19 @@ passed-one {s} {at} {value} {count} p h e =
     }
 
 -- a byte that is no digit, or five digits, end the number
+passed-end : {s : List ℕ} {at value count : ℕ} → Passed s at value count → digitsWithin (5 - count) s (at + count) ≡ 0
+    → (count ≡ digitsAt s at) × (value ≡ numberAt s at)
+unfolding numberAt
+passed-end {s} {at} {value} {count} p d = let c : digitsAt s at ≡ count = omega (arith, p .digits) in (sym c, p .number ∙ rw c)
+
 pub passed-stop : {s : List ℕ} {at value count : ℕ} → Passed s at value count → isDigit (byteAt s (at + count)) ≡ false → count < 5
     → (count ≡ digitsAt s at) × (value ≡ numberAt s at)
-unfolding digitsWithin numberAt
-passed-stop {s} {at} {value} {count} p e h =
-    let k : 5 - count ≡ suc (5 - (count + 1)) = omega arith in
-    let d : digitsWithin (5 - count) s (at + count) ≡ 0 = rw (k, e) in
-    let c : digitsAt s at ≡ count = omega (arith, p .digits) in
-    (sym c, p .number ∙ rw c)
+unfolding digitsWithin
+passed-stop {s} {at} {value} {count} p e h = let k : 5 - count ≡ suc (5 - (count + 1)) = omega arith in passed-end p (rw (k, e))
 
 pub passed-five : {s : List ℕ} {at value count : ℕ} → Passed s at value count → 5 ≤ count → (count ≡ digitsAt s at) × (value ≡ numberAt s at)
-unfolding digitsWithin numberAt
-passed-five {s} {at} {value} {count} p h =
-    let k : 5 - count ≡ 0 = omega (arith, p .most) in
-    let d : digitsWithin (5 - count) s (at + count) ≡ 0 = rw k in
-    let c : digitsAt s at ≡ count = omega (arith, p .digits) in
-    (sym c, p .number ∙ rw c)
+unfolding digitsWithin
+passed-five {s} {at} {value} {count} p h = let k : 5 - count ≡ 0 = omega arith in passed-end p (rw k)
 
 -- a number's digits are at most five
 one-or-none : (t : Bool) (n most : ℕ) → n ≤ most → cond t (1 + n) 0 ≤ suc most
@@ -86,33 +83,36 @@ unfolding digitsWithin
 within-most s zero at = omega arith
 within-most s (suc most) at = one-or-none (isDigit (byteAt s at)) (digitsWithin most s (at + 1)) most (within-most s most (at + 1))
 
-pub digits-most : (s : List ℕ) (at : ℕ) → digitsAt s at ≤ 5
-digits-most s at = within-most s 5 at
+pub digits-most : (s : List ℕ) (at : ℕ) {count : ℕ} → count ≡ digitsAt s at → count ≤ 5
+digits-most s at e = rw e (within-most s 5 at)
 
--- the byte that ends a number stands inside the list, for it is not 0
+-- a byte that is not 0 stands inside the list
+pub inside : (s : List ℕ) (i : ℕ) → 0 < byteAt s i → i < length s
+inside s i h = go (below-or-not i (length s))
+  where
+    go : (i < length s) ⊎ (length s ≤ i) → i < length s
+    go (inl l) = l
+    go (inr l) = let z : byteAt s i ≡ 0 = List·getD-eq-default s 0 l in absurd (omega arith)
+
+-- so does the byte that ends a number
 pub past-within : (s : List ℕ) (at end : ℕ) → 0 < end → isNumber s at end ≡ true → past s at ≤ length s
 unfolding isNumber past
 past-within s at end pos e =
-    let p = and-eq-true-iff (leb 1 (digitsAt s at)) (eqb (byteAt s (at + digitsAt s at)) end) .0 e in
-    go (eqb-true (byteAt s (at + digitsAt s at)) end (p .1)) (below-or-not (at + digitsAt s at) (length s))
-  where
-    go : byteAt s (at + digitsAt s at) ≡ end → (at + digitsAt s at < length s) ⊎ (length s ≤ at + digitsAt s at) → at + digitsAt s at + 1 ≤ length s
-    go q (inl h) = omega arith
-    go q (inr h) =
-        let z : byteAt s (at + digitsAt s at) ≡ 0 = List·getD-eq-default s 0 h in
-        absurd (omega arith)
+    let p = and-eq-true-iff (leb 1 (digitsAt s at)) _ .0 e in
+    let q = eqb-true (byteAt s (at + digitsAt s at)) end (p .1) in
+    omega (arith, inside s (at + digitsAt s at) (omega arith))
 
 -- ---- what reading a number answers, from its digits and the byte after them
 
-module _ (s : List ℕ) (at end count value : ℕ) (ec : count ≡ digitsAt s at) (ev : value ≡ numberAt s at) where
+module _ (s : List ℕ) (at end : ℕ) {count value : ℕ} (digits : (count ≡ digitsAt s at) × (value ≡ numberAt s at)) where
   pub no-digit : count < 1 → NoNumber ≡ numberRead s at end
   unfolding isNumber
-  no-digit h = let l : digitsAt s at < 1 = omega arith in rw (lt-leb 1 (digitsAt s at) l)
+  no-digit h = let l : digitsAt s at < 1 = omega (arith, digits .0) in rw (lt-leb 1 (digitsAt s at) l)
 
-  pub not-ended : (byteAt s (at + count) ≡ end → ⊥) → NoNumber ≡ numberRead s at end
+  pub not-ended : {byte : ℕ} → byte ≡ byteAt s (at + count) → (byte ≡ end → ⊥) → NoNumber ≡ numberRead s at end
   unfolding isNumber
-  not-ended h = rw (← ec, ne-eqb (byteAt s (at + count)) end h, and-false (leb 1 count))
+  not-ended e h = rw (← digits .0, ← e, ne-eqb _ end h, and-false (leb 1 count))
 
-  pub ended : 1 ≤ count → byteAt s (at + count) ≡ end → Value value (at + count + 1) ≡ numberRead s at end
+  pub ended : {byte : ℕ} → 1 ≤ count → byte ≡ byteAt s (at + count) → byte ≡ end → Value value (at + count + 1) ≡ numberRead s at end
   unfolding isNumber past
-  ended h e = rw (← ec, ← ev, le-leb 1 count h, eq-eqb (byteAt s (at + count)) end e)
+  ended l e h = rw (← digits .0, ← digits .1, le-leb 1 count l, ← e, eq-eqb _ end h)

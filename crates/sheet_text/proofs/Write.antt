@@ -1,10 +1,10 @@
 -- Laws of texts and of writing them: one text after the other is their join (`wrote-then`), and how long each text is at most.
 -- Assumes nothing.
-use mathlib.Core.Path.{_≡_, refl, sym, ap, _∙_}
+use mathlib.Core.Path.{_≡_, refl, sym, _∙_}
 use mathlib.Core.Bool.{Bool, true, false, cond}
-use mathlib.Core.List.{List, [], _∷_, _++_, append-nil}
+use mathlib.Core.List.{List, [], _∷_, _++_}
 use Prim.Native.Nat.{ℕ, zero, suc, _+_, _*_, _/_, _%_, _≤_, _<_}
-use native.Mathlib.Nat.{add-zero, add-suc, suc-add, mul-suc}
+use native.Mathlib.Nat.{add-zero, mul-suc}
 use native.Mathlib.Omega.{arith}
 use lib.Dec.{leb}
 use lib.ListN.{length, length-append, set, take, getD}
@@ -29,9 +29,9 @@ wrote-then {old} {at} {a} {b} {mid} {new} {next} {last} first second = record {
 }
 
 -- one byte more of a text that is copied
-pub wrote-one : (old : List ℕ) (at : ℕ) (text new : List ℕ) (i : ℕ) → Wrote old at (take i text) new (at + i) → i < length text
+pub wrote-one : {old : List ℕ} {at : ℕ} (text : List ℕ) {new : List ℕ} {i : ℕ} → Wrote old at (take i text) new (at + i) → i < length text
     → Wrote old at (take (i + 1) text) (set new (at + i) (getD text i 0)) (at + (i + 1))
-wrote-one old at text new i w h =
+wrote-one {old} {at} text {new} {i} w h =
     let n : i + 1 ≡ suc i = omega arith in
     let last : Wrote new (at + i) (getD text i 0 ∷ []) (set new (at + i) (getD text i 0)) (at + (i + 1)) =
     record { place = omega arith; bytes = refl } in
@@ -44,7 +44,7 @@ digit-length : (t : Bool) (x : ℕ) → length (cond t (x ∷ []) []) ≤ 1
 digit-length true x = omega arith
 digit-length false x = omega arith
 
-pub leading-digit-length : (power n : ℕ) → length (leadingDigit power n) ≤ 1
+leading-digit-length : (power n : ℕ) → length (leadingDigit power n) ≤ 1
 unfolding leadingDigit
 leading-digit-length power n = digit-length (leb power n) (48 + n / power % 10)
 
@@ -54,6 +54,13 @@ number-text-length n byte =
     simp length-append
     (omega
     (arith, leading-digit-length 10000 n, leading-digit-length 1000 n, leading-digit-length 100 n, leading-digit-length 10 n))
+
+-- where a digit and a number end that are written
+pub digit-most : (power n : ℕ) {old new : List ℕ} {at next : ℕ} → Wrote old at (leadingDigit power n) new next → next ≤ at + 1
+digit-most power n w = omega (arith, w .place, leading-digit-length power n)
+
+pub number-most : (n byte : ℕ) {old new : List ℕ} {at next : ℕ} → Wrote old at (numberText n byte) new next → next ≤ at + 6
+number-most n byte w = omega (arith, w .place, number-text-length n byte)
 
 -- n texts of at most k bytes each
 pub joined-length : (f : ℕ → List ℕ) (k n : ℕ) → ((i : ℕ) → length (f i) ≤ k) → length (joined f n) ≤ k * n

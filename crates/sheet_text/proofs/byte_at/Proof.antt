@@ -1,4 +1,4 @@
--- `sheet_text::byte_at` meets its contract.
+-- `sheet_text::byte_at` meets its contract: the element where there is one, and 0 past the end.
 -- Assumes nothing.
 use mathlib.Core.Path.{sym}
 use lib.ListN.{List·getD-eq-default}

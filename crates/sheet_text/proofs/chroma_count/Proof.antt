@@ -1,8 +1,6 @@
--- `sheet_text::chroma_count` meets its contract.
+-- `sheet_text::chroma_count` meets its contract: the product of the chroma plane's sides, which is at most 4,096.
 -- Assumes nothing.
-use Rattle.sheet_text.proofs.Sizes.{small-product, chroma-height-most}
-use Rattle.yuv_support.specs.Blend.{chromaWidth}
-use Prim.Native.Nat.{_≤_}
+use Rattle.sheet_text.proofs.Sizes.{chroma-count-most}
 use native.Mathlib.Omega.{arith}
 use borrow.Author.Needs.{needs}
 use Rattle.sheet_text.proofs.chroma_count.Statement.{statement}
@@ -25,11 +23,8 @@ cast-result-2 c = search needs
 
 mul-result : tie.Need-mul-result
 mul-result c =
-    let h = c .before .chroma-height .ensures in
-    let m = chroma-height-most (c .before .before .sampling-of .result) (c .before .before .before .args .v .height) in
-    let w : chromaWidth (c .before .before .before .args .v .width) ≤ 64 = omega (arith, c .before .before .before .pre .0) in
-    let l : c .before .chroma-height .result ≤ 64 = omega (arith, c .before .before .before .pre .1) in
-    omega (arith, small-product (chromaWidth (c .before .before .before .args .v .width)) (c .before .chroma-height .result) w l)
+    let start = c .before .before .before in
+    omega (arith, rw (← c .before .before .sampling-of .ensures, ← c .before .chroma-height .ensures) at (chroma-count-most (start .args .v) (start .pre .0) (start .pre .1)))
 
 returns : tie.Need-returns
 returns c = rw (c .before .chroma-height .ensures, c .before .before .sampling-of .ensures)

@@ -1,12 +1,12 @@
--- `sheet_text::convert` meets its contract.
+-- `sheet_text::convert` meets its contract: what it asks is what the function of the element width asks at its depths.
 -- Assumes nothing.
-use Rattle.sheet_text.proofs.Converted.{fit-8, fit-16, widest-8, widest-16}
+use Rattle.sheet_text.proofs.Converted.{asked-8, asked-16}
 use borrow.Author.Needs.{needs}
 use Rattle.sheet_text.proofs.convert.Statement.{statement}
 use Rattle.sheet_text.proofs.convert.Tie as tie
 
 picture8-requires : tie.Need-picture8-requires
-picture8-requires c κs = (fit-8 (c .before .before .before .before .before .before .before .args .v) (c .before .before .before .before .before .before .before .pre .0) (c .before .if1 .taken), rw (widest-8 (c .before .before .before .before .before .before .before .args .v) (c .before .if1 .taken)) at (c .before .before .before .before .before .before .before .pre .1), c .before .before .before .before .before .before .before .pre .2)
+picture8-requires c κs = asked-8 (c .before .before .before .before .before .before .before .pre) (c .before .if1 .taken)
 
 same-length : tie.Need-same-length
 same-length c = search needs
@@ -15,7 +15,7 @@ returns : tie.Need-returns
 returns c = search needs
 
 picture16-requires : tie.Need-picture16-requires
-picture16-requires c κs = (fit-16 (c .before .before .before .before .before .before .before .args .v) (c .before .before .before .before .before .before .before .pre .0) (c .before .if1 .left), rw (widest-16 (c .before .before .before .before .before .before .before .args .v) (c .before .if1 .left)) at (c .before .before .before .before .before .before .before .pre .1), c .before .before .before .before .before .before .before .pre .2)
+picture16-requires c κs = asked-16 (c .before .before .before .before .before .before .before .pre) (c .before .if1 .left)
 
 same-length-2 : tie.Need-same-length-2
 same-length-2 c = search needs

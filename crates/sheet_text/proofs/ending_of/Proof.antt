@@ -1,4 +1,4 @@
--- `sheet_text::ending_of` meets its contract.
+-- `sheet_text::ending_of` meets its contract: byte 10 where the place after the number begins a line, and else a space.
 -- Assumes nothing.
 use borrow.Author.Tests.{eq-eqb, ne-eqb}
 use borrow.Author.Needs.{needs}

@@ -1,12 +1,12 @@
--- `sheet_text::has_names` meets its contract.
+-- `sheet_text::has_names` meets its contract: the first i bytes are those of the line of names, up to the first that is not.
 -- Assumes nothing.
 use borrow.Author.Tests.{eq-eqb, ne-eqb}
 use Rattle.sheet_text.proofs.ManyNumbers.{all-none, all-one, not-all}
 use Rattle.sheet_text.specs.Sheet.{hasName, hasNames}
 use Rattle.sheet_text.specs.Numbers.{allBelow}
 use Prim.Native.Nat.{_≤_, _-_}
-use mathlib.Core.Bool.{true, false}
-use mathlib.Core.Path.{_≡_, sym, ap, _∙_}
+use mathlib.Core.Bool.{true}
+use mathlib.Core.Path.{_≡_, sym}
 use borrow.Author.Needs.{needs}
 use native.Mathlib.Omega.{arith}
 use Rattle.sheet_text.proofs.has_names.Statement.{statement}
@@ -19,7 +19,7 @@ abbrev μ-loop : tie.MeasureT-loop
 μ-loop s t i₀ i = 47 - i
 
 loop-holds : tie.Need-loop-holds Inv-loop μ-loop
-loop-holds c = (omega arith, all-none (hasName (c .before .before .args .s .now)))
+loop-holds c = (omega arith, all-none _)
 
 byte-at-requires : tie.Need-byte-at-requires Inv-loop μ-loop
 byte-at-requires c κs = search needs
@@ -29,9 +29,7 @@ element-copy-out-if1 c = omega arith
 
 returns : tie.Need-returns Inv-loop μ-loop
 unfolding hasNames
-returns c =
-    let e = c .before .before .byte-at .ensures in
-    sym (not-all (hasName (c .before .before .before .before .before .before .before .args .s .now)) 47 (c .before .before .before .before .loop .i) (c .before .before .before .loop-test .taken) (rw (← e) (ne-eqb _ _ (c .if1 .taken))))
+returns c = sym (not-all _ _ (c .before .before .before .loop-test .taken) (rw (← c .before .before .byte-at .ensures) (ne-eqb _ _ (c .if1 .taken))))
 
 add-i : tie.Need-add-i Inv-loop μ-loop
 add-i c = omega arith
@@ -40,13 +38,11 @@ loop-less : tie.Need-loop-less Inv-loop μ-loop
 loop-less c = omega arith
 
 loop-again : tie.Need-loop-again Inv-loop μ-loop
-loop-again c =
-    let e = c .before .before .byte-at .ensures in
-    (omega arith, all-one (hasName (c .before .before .before .before .before .before .before .args .s .now)) (c .before .before .before .before .loop .i) (c .before .before .before .before .loop .inv .1) (rw (← e) (eq-eqb _ _ (c .if1 .left))))
+loop-again c = (omega arith, all-one _ _ (c .before .before .before .before .loop .inv .1) (rw (← c .before .before .byte-at .ensures) (eq-eqb _ _ (c .if1 .left))))
 
 returns-2 : tie.Need-returns-2 Inv-loop μ-loop
 unfolding hasNames
-returns-2 c = let e : c .before .loop .i ≡ 47 = omega arith in sym (ap (allBelow (hasName (c .before .before .before .before .args .s .now))) (sym e) ∙ c .before .loop .inv .1)
+returns-2 c = let e : c .before .loop .i ≡ 47 = omega arith in sym (rw e at (c .before .loop .inv .1))
 
 pub has-names-spec : {M : Type 1} → statement M
 has-names-spec =

@@ -1,6 +1,6 @@
--- `sheet_text::luma_count` meets its contract.
+-- `sheet_text::luma_count` meets its contract: the product of the sides, which is at most 4,096.
 -- Assumes nothing.
-use Rattle.sheet_text.proofs.Sizes.{small-product}
+use Rattle.sheet_text.proofs.Sizes.{luma-count-most}
 use native.Mathlib.Omega.{arith}
 use borrow.Author.Needs.{needs}
 use Rattle.sheet_text.proofs.luma_count.Statement.{statement}
@@ -13,7 +13,7 @@ cast-result-2 : tie.Need-cast-result-2
 cast-result-2 c = search needs
 
 mul-result : tie.Need-mul-result
-mul-result c = omega (arith, small-product (c .before .before .args .v .width) (c .before .before .args .v .height) (c .before .before .pre .0) (c .before .before .pre .1))
+mul-result c = let start = c .before .before in omega (arith, luma-count-most (start .args .v) (start .pre .0) (start .pre .1))
 
 returns : tie.Need-returns
 returns c = search needs

@@ -1,17 +1,25 @@
--- `sheet_text::picture16` meets its contract.
+-- `sheet_text::picture16` meets its contract: the samples are copied, the conversion of a small picture is accepted, and it writes each component.
 -- Assumes nothing.
-use Rattle.sheet_text.proofs.Converted.{luma-most, chroma-most, planes-shown, most-counted}
-use Rattle.sheet_text.specs.Sheet.{lumaCount, chromaCount}
-use Rattle.yuv_support.specs.Picture.{channelsOf}
+use Rattle.sheet_text.proofs.Converted.{Narrowed, luma-asks, cb-asks, cr-asks, luma-part, cb-part, cr-part, planes-shown}
 use Rattle.yuv_support.specs.Settings.{depths16}
-use lib.Seq.{length-take-le}
-use lib.ListN.{length}
-use Prim.Native.Nat.{_*_, _≤_}
-use mathlib.Core.Path.{sym, ap, _∙_}
-use native.Mathlib.Omega.{arith}
 use borrow.Author.Needs.{needs}
 use Rattle.sheet_text.proofs.picture16.Statement.{statement}
 use Rattle.sheet_text.proofs.picture16.Tie as tie
+
+-- the samples, where those of the last plane are copied
+narrowed : (c : tie.After-narrow163) → let args = c .before .before .before .before .before .before .before .before .before .before .before .before .before .before .args in
+    Narrowed depths16 (args .v) (args .y .now) (args .u .now) (args .w .now) (c .before .before .before .before .before .before .before .before .before .luma-count .result) (c .before .before .before .before .before .before .before .before .chroma-count .result) (c .before .before .before .before .before .before .narrow16 .last .1 .1 .0) (c .before .before .before .narrow162 .last .1 .1 .0) (c .narrow163 .last .1 .1 .0)
+narrowed c = record {
+  fit = c .before .before .before .before .before .before .before .before .before .before .before .before .before .before .pre .0;
+  luma-count = c .before .before .before .before .before .before .before .before .before .luma-count .ensures;
+  chroma-count = c .before .before .before .before .before .before .before .before .chroma-count .ensures;
+  luma = c .before .before .before .before .before .before .narrow16 .ensures;
+  cb = c .before .before .before .narrow162 .ensures;
+  cr = c .narrow163 .ensures;
+  luma-long = c .before .before .before .before .before .before .narrow16 .kept .1 .1 .0;
+  cb-long = c .before .before .before .narrow162 .kept .1 .1 .0;
+  cr-long = c .narrow163 .kept .1 .1 .0;
+}
 
 luma-count-requires : tie.Need-luma-count-requires
 luma-count-requires c κs = search needs
@@ -23,19 +31,19 @@ slice-aggregate-narrow16 : tie.Need-slice-aggregate-narrow16
 slice-aggregate-narrow16 c = search needs
 
 narrow16-requires : tie.Need-narrow16-requires
-narrow16-requires c κs = most-counted 65535 (lumaCount (c .before .before .before .before .before .before .before .args .v)) (c .before .before .luma-count .result) (c .before .before .before .before .before .before .before .args .y .now) (c .before .before .luma-count .ensures) (luma-most depths16 (c .before .before .before .before .before .before .before .args .v) (c .before .before .before .before .before .before .before .pre .0)) (c .before .before .before .before .before .before .before .pre .1 .luma)
+narrow16-requires c κs = luma-asks (c .before .before .before .before .before .before .before .pre) (c .before .before .luma-count .ensures)
 
 slice-aggregate-narrow16-2 : tie.Need-slice-aggregate-narrow16-2
 slice-aggregate-narrow16-2 c = search needs
 
 narrow16-requires-2 : tie.Need-narrow16-requires-2
-narrow16-requires-2 c κs = most-counted 65535 (chromaCount (c .before .before .before .before .before .before .before .before .before .before .args .v)) (c .before .before .before .before .chroma-count .result) (c .before .before .before .before .before .before .before .before .before .before .args .u .now) (c .before .before .before .before .chroma-count .ensures) (chroma-most depths16 (c .before .before .before .before .before .before .before .before .before .before .args .v) (c .before .before .before .before .before .before .before .before .before .before .pre .0)) (c .before .before .before .before .before .before .before .before .before .before .pre .1 .cb)
+narrow16-requires-2 c κs = cb-asks (c .before .before .before .before .before .before .before .before .before .before .pre) (c .before .before .before .before .chroma-count .ensures)
 
 slice-aggregate-narrow16-3 : tie.Need-slice-aggregate-narrow16-3
 slice-aggregate-narrow16-3 c = search needs
 
 narrow16-requires-3 : tie.Need-narrow16-requires-3
-narrow16-requires-3 c κs = most-counted 65535 (chromaCount (c .before .before .before .before .before .before .before .before .before .before .before .before .before .args .v)) (c .before .before .before .before .before .before .before .chroma-count .result) (c .before .before .before .before .before .before .before .before .before .before .before .before .before .args .w .now) (c .before .before .before .before .before .before .before .chroma-count .ensures) (chroma-most depths16 (c .before .before .before .before .before .before .before .before .before .before .before .before .before .args .v) (c .before .before .before .before .before .before .before .before .before .before .before .before .before .pre .0)) (c .before .before .before .before .before .before .before .before .before .before .before .before .before .pre .1 .cr)
+narrow16-requires-3 c κs = cr-asks (c .before .before .before .before .before .before .before .before .before .before .before .before .before .pre) (c .before .before .before .before .before .before .before .chroma-count .ensures)
 
 order-of-requires : tie.Need-order-of-requires
 order-of-requires c κs = search needs
@@ -50,22 +58,22 @@ image-of-requires : tie.Need-image-of-requires
 image-of-requires c κs = search needs
 
 array-share-prefix-luma : tie.Need-array-share-prefix-luma
-array-share-prefix-luma c = omega (arith, luma-most depths16 (c .before .before .before .before .before .before .before .before .before .before .before .before .before .before .before .before .before .before .before .args .v) (c .before .before .before .before .before .before .before .before .before .before .before .before .before .before .before .before .before .before .before .pre .0), c .before .before .before .before .before .before .before .before .before .before .before .before .before .before .luma-count .ensures, c .before .before .before .before .before .before .before .before .before .before .before .narrow16 .kept .1 .1 .0)
+array-share-prefix-luma c = luma-part (narrowed (c .before .before .before .before .before)) .0
 
 slice-aggregate-yuv16-to-rgbx-bilinear : tie.Need-slice-aggregate-yuv16-to-rgbx-bilinear
-slice-aggregate-yuv16-to-rgbx-bilinear c = sym (length-take-le (c .before .before .before .before .before .before .before .before .before .before .before .before .before .before .before .luma-count .result) (c .before .before .before .before .before .before .before .before .before .before .before .before .narrow16 .last .1 .1 .0) (let h : c .before .before .before .before .before .before .before .before .before .before .before .before .before .before .before .luma-count .result ≤ length (c .before .before .before .before .before .before .before .before .before .before .before .before .narrow16 .last .1 .1 .0) = omega (arith, luma-most depths16 (c .before .before .before .before .before .before .before .before .before .before .before .before .before .before .before .before .before .before .before .before .args .v) (c .before .before .before .before .before .before .before .before .before .before .before .before .before .before .before .before .before .before .before .before .pre .0), c .before .before .before .before .before .before .before .before .before .before .before .before .before .before .before .luma-count .ensures, c .before .before .before .before .before .before .before .before .before .before .before .before .narrow16 .kept .1 .1 .0) in h))
+slice-aggregate-yuv16-to-rgbx-bilinear c = luma-part (narrowed (c .before .before .before .before .before .before)) .1
 
 array-share-prefix-cb : tie.Need-array-share-prefix-cb
-array-share-prefix-cb c = omega (arith, chroma-most depths16 (c .before .before .before .before .before .before .before .before .before .before .before .before .before .before .before .before .before .before .before .before .args .v) (c .before .before .before .before .before .before .before .before .before .before .before .before .before .before .before .before .before .before .before .before .pre .0), c .before .before .before .before .before .before .before .before .before .before .before .before .before .before .chroma-count .ensures, c .before .before .before .before .before .before .before .before .before .narrow162 .kept .1 .1 .0)
+array-share-prefix-cb c = cb-part (narrowed (c .before .before .before .before .before .before)) .0
 
 slice-aggregate-yuv16-to-rgbx-bilinear-2 : tie.Need-slice-aggregate-yuv16-to-rgbx-bilinear-2
-slice-aggregate-yuv16-to-rgbx-bilinear-2 c = sym (length-take-le (c .before .before .before .before .before .before .before .before .before .before .before .before .before .before .before .chroma-count .result) (c .before .before .before .before .before .before .before .before .before .before .narrow162 .last .1 .1 .0) (let h : c .before .before .before .before .before .before .before .before .before .before .before .before .before .before .before .chroma-count .result ≤ length (c .before .before .before .before .before .before .before .before .before .before .narrow162 .last .1 .1 .0) = omega (arith, chroma-most depths16 (c .before .before .before .before .before .before .before .before .before .before .before .before .before .before .before .before .before .before .before .before .before .args .v) (c .before .before .before .before .before .before .before .before .before .before .before .before .before .before .before .before .before .before .before .before .before .pre .0), c .before .before .before .before .before .before .before .before .before .before .before .before .before .before .before .chroma-count .ensures, c .before .before .before .before .before .before .before .before .before .before .narrow162 .kept .1 .1 .0) in h))
+slice-aggregate-yuv16-to-rgbx-bilinear-2 c = cb-part (narrowed (c .before .before .before .before .before .before .before)) .1
 
 array-share-prefix-cr : tie.Need-array-share-prefix-cr
-array-share-prefix-cr c = omega (arith, chroma-most depths16 (c .before .before .before .before .before .before .before .before .before .before .before .before .before .before .before .before .before .before .before .before .before .args .v) (c .before .before .before .before .before .before .before .before .before .before .before .before .before .before .before .before .before .before .before .before .before .pre .0), c .before .before .before .before .before .before .before .before .before .before .before .before .before .before .before .chroma-count .ensures, c .before .before .before .before .before .before .before .narrow163 .kept .1 .1 .0)
+array-share-prefix-cr c = cr-part (narrowed (c .before .before .before .before .before .before .before)) .0
 
 slice-aggregate-yuv16-to-rgbx-bilinear-3 : tie.Need-slice-aggregate-yuv16-to-rgbx-bilinear-3
-slice-aggregate-yuv16-to-rgbx-bilinear-3 c = sym (length-take-le (c .before .before .before .before .before .before .before .before .before .before .before .before .before .before .before .before .chroma-count .result) (c .before .before .before .before .before .before .before .before .narrow163 .last .1 .1 .0) (let h : c .before .before .before .before .before .before .before .before .before .before .before .before .before .before .before .before .chroma-count .result ≤ length (c .before .before .before .before .before .before .before .before .narrow163 .last .1 .1 .0) = omega (arith, chroma-most depths16 (c .before .before .before .before .before .before .before .before .before .before .before .before .before .before .before .before .before .before .before .before .before .before .args .v) (c .before .before .before .before .before .before .before .before .before .before .before .before .before .before .before .before .before .before .before .before .before .before .pre .0), c .before .before .before .before .before .before .before .before .before .before .before .before .before .before .before .before .chroma-count .ensures, c .before .before .before .before .before .before .before .before .narrow163 .kept .1 .1 .0) in h))
+slice-aggregate-yuv16-to-rgbx-bilinear-3 c = cr-part (narrowed (c .before .before .before .before .before .before .before .before)) .1
 
 yuv16-to-rgbx-bilinear-requires : tie.Need-yuv16-to-rgbx-bilinear-requires
 yuv16-to-rgbx-bilinear-requires c κs = search needs
@@ -75,15 +83,9 @@ same-length c = search needs
 
 returns : tie.Need-returns
 returns c =
-    planes-shown depths16 (c .before .before .before .before .before .before .before .before .before .before .before .before .before .before .before .before .before .before .before .before .before .before .before .before .before .before .args .v) (c .before .before .before .before .before .before .before .before .before .before .before .before .before .before .before .before .before .before .before .before .before .before .before .before .before .before .pre .0) (c .before .before .before .before .before .before .before .before .before .before .before .before .before .before .before .before .before .before .before .before .before .before .before .before .before .before .args .y .now) (c .before .before .before .before .before .before .before .before .before .before .before .before .before .before .before .before .before .before .before .before .before .before .before .before .before .before .args .u .now) (c .before .before .before .before .before .before .before .before .before .before .before .before .before .before .before .before .before .before .before .before .before .before .before .before .before .before .args .w .now)
-    (c .before .before .before .before .before .before .before .before .before .before .before .before .before .before .before .before .before .before .narrow16 .last .1 .1 .0) (c .before .before .before .before .before .before .before .before .before .before .before .before .before .before .before .narrow162 .last .1 .1 .0) (c .before .before .before .before .before .before .before .before .before .before .before .before .narrow163 .last .1 .1 .0) (c .before .before .before .before .before .before .before .before .before .before .before .before .before .before .before .before .before .before .before .before .before .before .before .before .before .before .args .rgb .now)
-    (c .before .before .yuv16-to-rgbx-bilinear .last .1 .1 .1 .1 .1 .0) (c .before .before .before .before .before .before .before .before .before .before .before .before .before .before .before .before .before .before .before .before .before .luma-count .result) (c .before .before .before .before .before .before .before .before .before .before .before .before .before .before .before .before .before .before .before .before .chroma-count .result)
-    (c .before .before .before .before .before .before .before .before .codes-of .result) (c .before .before .before .before .before .before .before .image-of .result) (c .before .before .before .before .before .before .before .before .before .row-length .result)
-    (c .before .before .before .before .before .before .before .before .before .before .before .before .before .before .before .before .before .before .before .before .before .luma-count .ensures) (c .before .before .before .before .before .before .before .before .before .before .before .before .before .before .before .before .before .before .before .before .chroma-count .ensures) (c .before .before .before .before .before .before .before .before .codes-of .ensures) (c .before .before .before .before .before .before .before .image-of .ensures)
-    (c .before .before .before .before .before .before .before .before .before .row-length .ensures ∙ ap (λ o. c .before .before .before .before .before .before .before .before .before .before .before .before .before .before .before .before .before .before .before .before .before .before .before .before .before .before .args .v .width * channelsOf o) (c .before .before .before .before .before .before .before .before .before .before .order-of .ensures))
-    (c .before .before .before .before .before .before .before .before .before .before .before .before .before .before .before .before .before .before .narrow16 .ensures) (c .before .before .before .before .before .before .before .before .before .before .before .before .before .before .before .narrow162 .ensures) (c .before .before .before .before .before .before .before .before .before .before .before .before .narrow163 .ensures)
-    (c .before .before .before .before .before .before .before .before .before .before .before .before .before .before .before .before .before .before .narrow16 .kept .1 .1 .0) (c .before .before .before .before .before .before .before .before .before .before .before .before .before .before .before .narrow162 .kept .1 .1 .0) (c .before .before .before .before .before .before .before .before .before .before .before .before .narrow163 .kept .1 .1 .0) (c .before .before .before .before .before .before .before .before .before .before .before .before .before .before .before .before .before .before .before .before .before .before .before .before .before .before .pre .2)
-    (c .before .before .yuv16-to-rgbx-bilinear .ensures .1 .0)
+    let image = c .before .before .before .before .before .before .before in
+    planes-shown (narrowed (image .before .before .before .before .before)) _ (image .before .codes-of .ensures) (image .image-of .ensures) (image .before .before .before .order-of .ensures) (image .before .before .row-length .ensures)
+    (c .before .before .before .before .before .before .before .before .before .before .before .before .before .before .before .before .before .before .before .before .before .before .before .before .before .before .pre .2) (c .before .before .yuv16-to-rgbx-bilinear .ensures .1 .0)
 
 pub picture16-spec : {M : Type 1} → statement M
 picture16-spec =

@@ -1,17 +1,29 @@
--- `sheet_text::picture8` meets its contract.
+-- `sheet_text::picture8` meets its contract: the samples are copied, the conversion of a small picture is accepted, and its bytes are widened.
 -- Assumes nothing.
-use Rattle.sheet_text.proofs.Converted.{luma-most, chroma-most, planes-shown, whole-same, most-counted}
-use Rattle.sheet_text.specs.Sheet.{lumaCount, chromaCount}
-use Rattle.yuv_support.specs.Picture.{channelsOf}
+use Rattle.sheet_text.proofs.Converted.{Narrowed, luma-asks, cb-asks, cr-asks, luma-part, cb-part, cr-part, planes-shown, whole-same}
 use Rattle.yuv_support.specs.Settings.{depths8}
-use lib.Seq.{length-take-le}
-use lib.ListN.{length, replicate, length-replicate}
-use Prim.Native.Nat.{ℕ, _*_, _≤_}
-use mathlib.Core.Path.{sym, ap, _∙_}
+use lib.ListN.{length-replicate}
+use Prim.Native.Nat.{ℕ}
+use mathlib.Core.Path.{_∙_}
 use native.Mathlib.Omega.{arith}
 use borrow.Author.Needs.{needs}
 use Rattle.sheet_text.proofs.picture8.Statement.{statement}
 use Rattle.sheet_text.proofs.picture8.Tie as tie
+
+-- the samples, where those of the last plane are copied
+narrowed : (c : tie.After-narrow83) → let args = c .before .before .before .before .before .before .before .before .before .before .before .before .before .before .args in
+    Narrowed depths8 (args .v) (args .y .now) (args .u .now) (args .w .now) (c .before .before .before .before .before .before .before .before .before .luma-count .result) (c .before .before .before .before .before .before .before .before .chroma-count .result) (c .before .before .before .before .before .before .narrow8 .last .1 .1 .0) (c .before .before .before .narrow82 .last .1 .1 .0) (c .narrow83 .last .1 .1 .0)
+narrowed c = record {
+  fit = c .before .before .before .before .before .before .before .before .before .before .before .before .before .before .pre .0;
+  luma-count = c .before .before .before .before .before .before .before .before .before .luma-count .ensures;
+  chroma-count = c .before .before .before .before .before .before .before .before .chroma-count .ensures;
+  luma = c .before .before .before .before .before .before .narrow8 .ensures;
+  cb = c .before .before .before .narrow82 .ensures;
+  cr = c .narrow83 .ensures;
+  luma-long = c .before .before .before .before .before .before .narrow8 .kept .1 .1 .0;
+  cb-long = c .before .before .before .narrow82 .kept .1 .1 .0;
+  cr-long = c .narrow83 .kept .1 .1 .0;
+}
 
 luma-count-requires : tie.Need-luma-count-requires
 luma-count-requires c κs = search needs
@@ -23,19 +35,19 @@ slice-aggregate-narrow8 : tie.Need-slice-aggregate-narrow8
 slice-aggregate-narrow8 c = search needs
 
 narrow8-requires : tie.Need-narrow8-requires
-narrow8-requires c κs = most-counted 255 (lumaCount (c .before .before .before .before .before .before .before .args .v)) (c .before .before .luma-count .result) (c .before .before .before .before .before .before .before .args .y .now) (c .before .before .luma-count .ensures) (luma-most depths8 (c .before .before .before .before .before .before .before .args .v) (c .before .before .before .before .before .before .before .pre .0)) (c .before .before .before .before .before .before .before .pre .1 .luma)
+narrow8-requires c κs = luma-asks (c .before .before .before .before .before .before .before .pre) (c .before .before .luma-count .ensures)
 
 slice-aggregate-narrow8-2 : tie.Need-slice-aggregate-narrow8-2
 slice-aggregate-narrow8-2 c = search needs
 
 narrow8-requires-2 : tie.Need-narrow8-requires-2
-narrow8-requires-2 c κs = most-counted 255 (chromaCount (c .before .before .before .before .before .before .before .before .before .before .args .v)) (c .before .before .before .before .chroma-count .result) (c .before .before .before .before .before .before .before .before .before .before .args .u .now) (c .before .before .before .before .chroma-count .ensures) (chroma-most depths8 (c .before .before .before .before .before .before .before .before .before .before .args .v) (c .before .before .before .before .before .before .before .before .before .before .pre .0)) (c .before .before .before .before .before .before .before .before .before .before .pre .1 .cb)
+narrow8-requires-2 c κs = cb-asks (c .before .before .before .before .before .before .before .before .before .before .pre) (c .before .before .before .before .chroma-count .ensures)
 
 slice-aggregate-narrow8-3 : tie.Need-slice-aggregate-narrow8-3
 slice-aggregate-narrow8-3 c = search needs
 
 narrow8-requires-3 : tie.Need-narrow8-requires-3
-narrow8-requires-3 c κs = most-counted 255 (chromaCount (c .before .before .before .before .before .before .before .before .before .before .before .before .before .args .v)) (c .before .before .before .before .before .before .before .chroma-count .result) (c .before .before .before .before .before .before .before .before .before .before .before .before .before .args .w .now) (c .before .before .before .before .before .before .before .chroma-count .ensures) (chroma-most depths8 (c .before .before .before .before .before .before .before .before .before .before .before .before .before .args .v) (c .before .before .before .before .before .before .before .before .before .before .before .before .before .pre .0)) (c .before .before .before .before .before .before .before .before .before .before .before .before .before .pre .1 .cr)
+narrow8-requires-3 c κs = cr-asks (c .before .before .before .before .before .before .before .before .before .before .before .before .before .pre) (c .before .before .before .before .before .before .before .chroma-count .ensures)
 
 order-of-requires : tie.Need-order-of-requires
 order-of-requires c κs = search needs
@@ -50,22 +62,22 @@ image-of-requires : tie.Need-image-of-requires
 image-of-requires c κs = search needs
 
 array-share-prefix-luma : tie.Need-array-share-prefix-luma
-array-share-prefix-luma c = omega (arith, luma-most depths8 (c .before .before .before .before .before .before .before .before .before .before .before .before .before .before .before .before .before .before .before .args .v) (c .before .before .before .before .before .before .before .before .before .before .before .before .before .before .before .before .before .before .before .pre .0), c .before .before .before .before .before .before .before .before .before .before .before .before .before .before .luma-count .ensures, c .before .before .before .before .before .before .before .before .before .before .before .narrow8 .kept .1 .1 .0)
+array-share-prefix-luma c = luma-part (narrowed (c .before .before .before .before .before)) .0
 
 slice-aggregate-yuv-to-rgbx-bilinear : tie.Need-slice-aggregate-yuv-to-rgbx-bilinear
-slice-aggregate-yuv-to-rgbx-bilinear c = sym (length-take-le (c .before .before .before .before .before .before .before .before .before .before .before .before .before .before .before .luma-count .result) (c .before .before .before .before .before .before .before .before .before .before .before .before .narrow8 .last .1 .1 .0) (let h : c .before .before .before .before .before .before .before .before .before .before .before .before .before .before .before .luma-count .result ≤ length (c .before .before .before .before .before .before .before .before .before .before .before .before .narrow8 .last .1 .1 .0) = omega (arith, luma-most depths8 (c .before .before .before .before .before .before .before .before .before .before .before .before .before .before .before .before .before .before .before .before .args .v) (c .before .before .before .before .before .before .before .before .before .before .before .before .before .before .before .before .before .before .before .before .pre .0), c .before .before .before .before .before .before .before .before .before .before .before .before .before .before .before .luma-count .ensures, c .before .before .before .before .before .before .before .before .before .before .before .before .narrow8 .kept .1 .1 .0) in h))
+slice-aggregate-yuv-to-rgbx-bilinear c = luma-part (narrowed (c .before .before .before .before .before .before)) .1
 
 array-share-prefix-cb : tie.Need-array-share-prefix-cb
-array-share-prefix-cb c = omega (arith, chroma-most depths8 (c .before .before .before .before .before .before .before .before .before .before .before .before .before .before .before .before .before .before .before .before .args .v) (c .before .before .before .before .before .before .before .before .before .before .before .before .before .before .before .before .before .before .before .before .pre .0), c .before .before .before .before .before .before .before .before .before .before .before .before .before .before .chroma-count .ensures, c .before .before .before .before .before .before .before .before .before .narrow82 .kept .1 .1 .0)
+array-share-prefix-cb c = cb-part (narrowed (c .before .before .before .before .before .before)) .0
 
 slice-aggregate-yuv-to-rgbx-bilinear-2 : tie.Need-slice-aggregate-yuv-to-rgbx-bilinear-2
-slice-aggregate-yuv-to-rgbx-bilinear-2 c = sym (length-take-le (c .before .before .before .before .before .before .before .before .before .before .before .before .before .before .before .chroma-count .result) (c .before .before .before .before .before .before .before .before .before .before .narrow82 .last .1 .1 .0) (let h : c .before .before .before .before .before .before .before .before .before .before .before .before .before .before .before .chroma-count .result ≤ length (c .before .before .before .before .before .before .before .before .before .before .narrow82 .last .1 .1 .0) = omega (arith, chroma-most depths8 (c .before .before .before .before .before .before .before .before .before .before .before .before .before .before .before .before .before .before .before .before .before .args .v) (c .before .before .before .before .before .before .before .before .before .before .before .before .before .before .before .before .before .before .before .before .before .pre .0), c .before .before .before .before .before .before .before .before .before .before .before .before .before .before .before .chroma-count .ensures, c .before .before .before .before .before .before .before .before .before .before .narrow82 .kept .1 .1 .0) in h))
+slice-aggregate-yuv-to-rgbx-bilinear-2 c = cb-part (narrowed (c .before .before .before .before .before .before .before)) .1
 
 array-share-prefix-cr : tie.Need-array-share-prefix-cr
-array-share-prefix-cr c = omega (arith, chroma-most depths8 (c .before .before .before .before .before .before .before .before .before .before .before .before .before .before .before .before .before .before .before .before .before .args .v) (c .before .before .before .before .before .before .before .before .before .before .before .before .before .before .before .before .before .before .before .before .before .pre .0), c .before .before .before .before .before .before .before .before .before .before .before .before .before .before .before .chroma-count .ensures, c .before .before .before .before .before .before .before .narrow83 .kept .1 .1 .0)
+array-share-prefix-cr c = cr-part (narrowed (c .before .before .before .before .before .before .before)) .0
 
 slice-aggregate-yuv-to-rgbx-bilinear-3 : tie.Need-slice-aggregate-yuv-to-rgbx-bilinear-3
-slice-aggregate-yuv-to-rgbx-bilinear-3 c = sym (length-take-le (c .before .before .before .before .before .before .before .before .before .before .before .before .before .before .before .before .chroma-count .result) (c .before .before .before .before .before .before .before .before .narrow83 .last .1 .1 .0) (let h : c .before .before .before .before .before .before .before .before .before .before .before .before .before .before .before .before .chroma-count .result ≤ length (c .before .before .before .before .before .before .before .before .narrow83 .last .1 .1 .0) = omega (arith, chroma-most depths8 (c .before .before .before .before .before .before .before .before .before .before .before .before .before .before .before .before .before .before .before .before .before .before .args .v) (c .before .before .before .before .before .before .before .before .before .before .before .before .before .before .before .before .before .before .before .before .before .before .pre .0), c .before .before .before .before .before .before .before .before .before .before .before .before .before .before .before .before .chroma-count .ensures, c .before .before .before .before .before .before .before .before .narrow83 .kept .1 .1 .0) in h))
+slice-aggregate-yuv-to-rgbx-bilinear-3 c = cr-part (narrowed (c .before .before .before .before .before .before .before .before)) .1
 
 slice-aggregate-yuv-to-rgbx-bilinear-4 : tie.Need-slice-aggregate-yuv-to-rgbx-bilinear-4
 slice-aggregate-yuv-to-rgbx-bilinear-4 c = search needs
@@ -84,18 +96,12 @@ same-length c = search needs
 
 returns : tie.Need-returns
 returns c =
-    let rgb = whole-same 16384 (c .before .before .widen8 .last .1 .1 .0) (c .before .before .before .before .before .before .yuv-to-rgbx-bilinear .last .1 .1 .1 .1 .1 .0)
-    (c .before .before .widen8 .kept .1 .1 .0 ∙ c .before .before .before .before .before .before .before .before .before .before .before .before .before .before .before .before .before .before .before .before .before .before .before .before .before .before .before .before .before .before .pre .2) (c .before .before .before .before .before .before .yuv-to-rgbx-bilinear .kept .1 .1 .1 .1 .1 .0) (c .before .before .widen8 .ensures) in
-    rw rgb
-    (planes-shown depths8 (c .before .before .before .before .before .before .before .before .before .before .before .before .before .before .before .before .before .before .before .before .before .before .before .before .before .before .before .before .before .before .args .v) (c .before .before .before .before .before .before .before .before .before .before .before .before .before .before .before .before .before .before .before .before .before .before .before .before .before .before .before .before .before .before .pre .0) (c .before .before .before .before .before .before .before .before .before .before .before .before .before .before .before .before .before .before .before .before .before .before .before .before .before .before .before .before .before .before .args .y .now) (c .before .before .before .before .before .before .before .before .before .before .before .before .before .before .before .before .before .before .before .before .before .before .before .before .before .before .before .before .before .before .args .u .now) (c .before .before .before .before .before .before .before .before .before .before .before .before .before .before .before .before .before .before .before .before .before .before .before .before .before .before .before .before .before .before .args .w .now)
-    (c .before .before .before .before .before .before .before .before .before .before .before .before .before .before .before .before .before .before .before .before .before .before .narrow8 .last .1 .1 .0) (c .before .before .before .before .before .before .before .before .before .before .before .before .before .before .before .before .before .before .before .narrow82 .last .1 .1 .0) (c .before .before .before .before .before .before .before .before .before .before .before .before .before .before .before .before .narrow83 .last .1 .1 .0) (replicate 16384 0)
-    (c .before .before .before .before .before .before .yuv-to-rgbx-bilinear .last .1 .1 .1 .1 .1 .0) (c .before .before .before .before .before .before .before .before .before .before .before .before .before .before .before .before .before .before .before .before .before .before .before .before .before .luma-count .result) (c .before .before .before .before .before .before .before .before .before .before .before .before .before .before .before .before .before .before .before .before .before .before .before .before .chroma-count .result)
-    (c .before .before .before .before .before .before .before .before .before .before .before .before .codes-of .result) (c .before .before .before .before .before .before .before .before .before .before .before .image-of .result) (c .before .before .before .before .before .before .before .before .before .before .before .before .before .row-length .result)
-    (c .before .before .before .before .before .before .before .before .before .before .before .before .before .before .before .before .before .before .before .before .before .before .before .before .before .luma-count .ensures) (c .before .before .before .before .before .before .before .before .before .before .before .before .before .before .before .before .before .before .before .before .before .before .before .before .chroma-count .ensures) (c .before .before .before .before .before .before .before .before .before .before .before .before .codes-of .ensures) (c .before .before .before .before .before .before .before .before .before .before .before .image-of .ensures)
-    (c .before .before .before .before .before .before .before .before .before .before .before .before .before .row-length .ensures ∙ ap (λ o. c .before .before .before .before .before .before .before .before .before .before .before .before .before .before .before .before .before .before .before .before .before .before .before .before .before .before .before .before .before .before .args .v .width * channelsOf o) (c .before .before .before .before .before .before .before .before .before .before .before .before .before .before .order-of .ensures))
-    (c .before .before .before .before .before .before .before .before .before .before .before .before .before .before .before .before .before .before .before .before .before .before .narrow8 .ensures) (c .before .before .before .before .before .before .before .before .before .before .before .before .before .before .before .before .before .before .before .narrow82 .ensures) (c .before .before .before .before .before .before .before .before .before .before .before .before .before .before .before .before .narrow83 .ensures)
-    (c .before .before .before .before .before .before .before .before .before .before .before .before .before .before .before .before .before .before .before .before .before .before .narrow8 .kept .1 .1 .0) (c .before .before .before .before .before .before .before .before .before .before .before .before .before .before .before .before .before .before .before .narrow82 .kept .1 .1 .0) (c .before .before .before .before .before .before .before .before .before .before .before .before .before .before .before .before .narrow83 .kept .1 .1 .0) (length-replicate {A = ℕ} 16384 0)
-    (c .before .before .before .before .before .before .yuv-to-rgbx-bilinear .ensures .1 .0))
+    let image = c .before .before .before .before .before .before .before .before .before .before .before in
+    let wide = c .before .before .widen8 in
+    let made = c .before .before .before .before .before .before .yuv-to-rgbx-bilinear in
+    rw (whole-same 16384 (wide .last .1 .1 .0) (made .last .1 .1 .1 .1 .1 .0) (wide .kept .1 .1 .0 ∙ c .before .before .before .before .before .before .before .before .before .before .before .before .before .before .before .before .before .before .before .before .before .before .before .before .before .before .before .before .before .before .pre .2) (made .kept .1 .1 .1 .1 .1 .0) (wide .ensures))
+    (planes-shown (narrowed (image .before .before .before .before .before)) _ (image .before .codes-of .ensures) (image .image-of .ensures) (image .before .before .before .order-of .ensures) (image .before .before .row-length .ensures)
+    (length-replicate {A = ℕ} 16384 0) (made .ensures .1 .0))
 
 pub picture8-spec : {M : Type 1} → statement M
 picture8-spec =

@@ -1,4 +1,4 @@
--- `sheet_text::places_of` meets its contract.
+-- `sheet_text::places_of` meets its contract: each number of the picture's places is the definition's.
 -- Assumes nothing.
 use borrow.Author.Needs.{needs}
 use Rattle.sheet_text.proofs.places_of.Statement.{statement}

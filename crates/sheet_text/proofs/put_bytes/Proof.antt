@@ -1,4 +1,4 @@
--- `sheet_text::put_bytes` meets its contract.
+-- `sheet_text::put_bytes` meets its contract: the first i bytes of the text are written, one more at each turn of the loop.
 -- Assumes nothing.
 use Rattle.sheet_text.proofs.Write.{wrote-nothing, wrote-one}
 use Rattle.sheet_text.specs.Text.{Wrote}
@@ -35,15 +35,13 @@ loop-less : tie.Need-loop-less Inv-loop μ-loop
 loop-less c = omega arith
 
 loop-again : tie.Need-loop-again Inv-loop μ-loop
-loop-again c = (omega arith, wrote-one (c .before .before .before .args .out .now) (c .before .before .before .args .at) (c .before .before .before .args .text .now) (c .before .before .loop .out) (c .before .before .loop .i) (c .before .before .loop .inv .1) (c .before .loop-test .taken))
+loop-again c = (omega arith, wrote-one _ (c .before .before .loop .inv .1) (c .before .loop-test .taken))
 
 add-result : tie.Need-add-result Inv-loop μ-loop
 add-result c = omega arith
 
 returns : tie.Need-returns Inv-loop μ-loop
-returns c =
-    let e : take (c .before .loop .i) (c .before .before .args .text .now) ≡ c .before .before .args .text .now = take-all (c .before .loop .i) (c .before .before .args .text .now) (c .loop-test .left) in
-    rw e at (c .before .loop .inv .1)
+returns c = rw (take-all _ (c .before .before .args .text .now) (c .loop-test .left)) at (c .before .loop .inv .1)
 
 pub put-bytes-spec : {M : Type 1} → statement M
 put-bytes-spec =

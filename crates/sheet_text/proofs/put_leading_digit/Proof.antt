@@ -1,4 +1,4 @@
--- `sheet_text::put_leading_digit` meets its contract.
+-- `sheet_text::put_leading_digit` meets its contract: the digit where the number reaches its power of ten, and else nothing.
 -- Assumes nothing.
 use Rattle.sheet_text.proofs.Write.{wrote-nothing}
 use Rattle.sheet_text.specs.Text.{leadingDigit}

@@ -1,6 +1,6 @@
--- `sheet_text::put_line` meets its contract.
+-- `sheet_text::put_line` meets its contract: five numbers, one after the other.
 -- Assumes nothing.
-use Rattle.sheet_text.proofs.Write.{number-text-length, wrote-then}
+use Rattle.sheet_text.proofs.Write.{number-most, wrote-then}
 use Rattle.sheet_text.specs.Sheet.{pixelText}
 use native.Mathlib.Omega.{arith}
 use borrow.Author.Needs.{needs}
@@ -11,16 +11,16 @@ put-number-requires : tie.Need-put-number-requires
 put-number-requires c κs = search needs
 
 put-number-requires-2 : tie.Need-put-number-requires-2
-put-number-requires-2 c κs = omega (arith, c .before .put-number .ensures .place, number-text-length (c .before .before .before .args .row) 32, c .before .before .before .pre)
+put-number-requires-2 c κs = omega (arith, number-most _ _ (c .before .put-number .ensures), c .before .before .before .pre)
 
 put-number-requires-3 : tie.Need-put-number-requires-3
-put-number-requires-3 c κs = omega (arith, c .before .before .before .put-number .ensures .place, number-text-length (c .before .before .before .before .before .args .row) 32, c .before .put-number2 .ensures .place, number-text-length (c .before .before .before .before .before .args .column) 32, c .before .before .before .before .before .pre)
+put-number-requires-3 c κs = omega (arith, number-most _ _ (c .before .put-number2 .ensures), number-most _ _ (c .before .before .before .put-number .ensures), c .before .before .before .before .before .pre)
 
 put-number-requires-4 : tie.Need-put-number-requires-4
-put-number-requires-4 c κs = omega (arith, c .before .before .before .before .before .put-number .ensures .place, number-text-length (c .before .before .before .before .before .before .before .args .row) 32, c .before .before .before .put-number2 .ensures .place, number-text-length (c .before .before .before .before .before .before .before .args .column) 32, c .before .put-number3 .ensures .place, number-text-length (c .before .before .before .before .before .before .before .args .r) 32, c .before .before .before .before .before .before .before .pre)
+put-number-requires-4 c κs = omega (arith, number-most _ _ (c .before .put-number3 .ensures), number-most _ _ (c .before .before .before .put-number2 .ensures), number-most _ _ (c .before .before .before .before .before .put-number .ensures), c .before .before .before .before .before .before .before .pre)
 
 put-number-requires-5 : tie.Need-put-number-requires-5
-put-number-requires-5 c κs = omega (arith, c .before .before .before .before .before .before .before .put-number .ensures .place, number-text-length (c .before .before .before .before .before .before .before .before .before .args .row) 32, c .before .before .before .before .before .put-number2 .ensures .place, number-text-length (c .before .before .before .before .before .before .before .before .before .args .column) 32, c .before .before .before .put-number3 .ensures .place, number-text-length (c .before .before .before .before .before .before .before .before .before .args .r) 32, c .before .put-number4 .ensures .place, number-text-length (c .before .before .before .before .before .before .before .before .before .args .g) 32, c .before .before .before .before .before .before .before .before .before .pre)
+put-number-requires-5 c κs = omega (arith, number-most _ _ (c .before .put-number4 .ensures), number-most _ _ (c .before .before .before .put-number3 .ensures), number-most _ _ (c .before .before .before .before .before .put-number2 .ensures), number-most _ _ (c .before .before .before .before .before .before .before .put-number .ensures), c .before .before .before .before .before .before .before .before .before .pre)
 
 returns : tie.Need-returns
 unfolding pixelText

@@ -1,6 +1,6 @@
--- `sheet_text::put_number` meets its contract.
+-- `sheet_text::put_number` meets its contract: four digits that are no leading zeros, the last digit, and the byte after it.
 -- Assumes nothing.
-use Rattle.sheet_text.proofs.Write.{leading-digit-length, wrote-then}
+use Rattle.sheet_text.proofs.Write.{digit-most, wrote-then}
 use Rattle.sheet_text.specs.Text.{decimalText, numberText}
 use native.Mathlib.Omega.{arith}
 use borrow.Author.Needs.{needs}
@@ -11,13 +11,13 @@ put-leading-digit-requires : tie.Need-put-leading-digit-requires
 put-leading-digit-requires c κs = search needs
 
 put-leading-digit-requires-2 : tie.Need-put-leading-digit-requires-2
-put-leading-digit-requires-2 c κs = omega (arith, c .before .put-leading-digit .ensures .place, leading-digit-length 10000 (c .before .before .before .args .n), c .before .before .before .pre)
+put-leading-digit-requires-2 c κs = omega (arith, digit-most _ _ (c .before .put-leading-digit .ensures), c .before .before .before .pre)
 
 put-leading-digit-requires-3 : tie.Need-put-leading-digit-requires-3
-put-leading-digit-requires-3 c κs = omega (arith, c .before .put-leading-digit2 .ensures .place, c .before .before .before .put-leading-digit .ensures .place, leading-digit-length 10000 (c .before .before .before .before .before .args .n), leading-digit-length 1000 (c .before .before .before .before .before .args .n), c .before .before .before .before .before .pre)
+put-leading-digit-requires-3 c κs = omega (arith, digit-most _ _ (c .before .put-leading-digit2 .ensures), digit-most _ _ (c .before .before .before .put-leading-digit .ensures), c .before .before .before .before .before .pre)
 
 put-leading-digit-requires-4 : tie.Need-put-leading-digit-requires-4
-put-leading-digit-requires-4 c κs = omega (arith, c .before .put-leading-digit3 .ensures .place, c .before .before .before .put-leading-digit2 .ensures .place, c .before .before .before .before .before .put-leading-digit .ensures .place, leading-digit-length 10000 (c .before .before .before .before .before .before .before .args .n), leading-digit-length 1000 (c .before .before .before .before .before .before .before .args .n), leading-digit-length 100 (c .before .before .before .before .before .before .before .args .n), c .before .before .before .before .before .before .before .pre)
+put-leading-digit-requires-4 c κs = omega (arith, digit-most _ _ (c .before .put-leading-digit3 .ensures), digit-most _ _ (c .before .before .before .put-leading-digit2 .ensures), digit-most _ _ (c .before .before .before .before .before .put-leading-digit .ensures), c .before .before .before .before .before .before .before .pre)
 
 add-put-byte : tie.Need-add-put-byte
 add-put-byte c = search needs
@@ -26,10 +26,10 @@ cast-put-byte : tie.Need-cast-put-byte
 cast-put-byte c = search needs
 
 put-byte-requires : tie.Need-put-byte-requires
-put-byte-requires c κs = omega (arith, c .before .put-leading-digit4 .ensures .place, c .before .before .before .put-leading-digit3 .ensures .place, c .before .before .before .before .before .put-leading-digit2 .ensures .place, c .before .before .before .before .before .before .before .put-leading-digit .ensures .place, leading-digit-length 10000 (c .before .before .before .before .before .before .before .before .before .args .n), leading-digit-length 1000 (c .before .before .before .before .before .before .before .before .before .args .n), leading-digit-length 100 (c .before .before .before .before .before .before .before .before .before .args .n), leading-digit-length 10 (c .before .before .before .before .before .before .before .before .before .args .n), c .before .before .before .before .before .before .before .before .before .pre)
+put-byte-requires c κs = omega (arith, digit-most _ _ (c .before .put-leading-digit4 .ensures), digit-most _ _ (c .before .before .before .put-leading-digit3 .ensures), digit-most _ _ (c .before .before .before .before .before .put-leading-digit2 .ensures), digit-most _ _ (c .before .before .before .before .before .before .before .put-leading-digit .ensures), c .before .before .before .before .before .before .before .before .before .pre)
 
 put-byte-requires-2 : tie.Need-put-byte-requires-2
-put-byte-requires-2 c κs = omega (arith, c .before .put-byte .ensures .place, c .before .before .before .put-leading-digit4 .ensures .place, c .before .before .before .before .before .put-leading-digit3 .ensures .place, c .before .before .before .before .before .before .before .put-leading-digit2 .ensures .place, c .before .before .before .before .before .before .before .before .before .put-leading-digit .ensures .place, leading-digit-length 10000 (c .before .before .before .before .before .before .before .before .before .before .before .args .n), leading-digit-length 1000 (c .before .before .before .before .before .before .before .before .before .before .before .args .n), leading-digit-length 100 (c .before .before .before .before .before .before .before .before .before .before .before .args .n), leading-digit-length 10 (c .before .before .before .before .before .before .before .before .before .before .before .args .n), c .before .before .before .before .before .before .before .before .before .before .before .pre)
+put-byte-requires-2 c κs = omega (arith, c .before .put-byte .ensures .place, digit-most _ _ (c .before .before .before .put-leading-digit4 .ensures), digit-most _ _ (c .before .before .before .before .before .put-leading-digit3 .ensures), digit-most _ _ (c .before .before .before .before .before .before .before .put-leading-digit2 .ensures), digit-most _ _ (c .before .before .before .before .before .before .before .before .before .put-leading-digit .ensures), c .before .before .before .before .before .before .before .before .before .before .before .pre)
 
 returns : tie.Need-returns
 unfolding decimalText numberText

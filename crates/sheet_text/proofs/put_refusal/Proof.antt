@@ -1,4 +1,4 @@
--- `sheet_text::put_refusal` meets its contract.
+-- `sheet_text::put_refusal` meets its contract: the word, and after it the number.
 -- Assumes nothing.
 use Rattle.sheet_text.proofs.Write.{wrote-then}
 use Rattle.sheet_text.specs.Sheet.{refusal}

@@ -1,9 +1,6 @@
--- `sheet_text::put_sheet` meets its contract.
+-- `sheet_text::put_sheet` meets its contract: the picture shows each component, so what is written of it is the table.
 -- Assumes nothing.
-use Rattle.sheet_text.proofs.Shown.{places-small, shown-table}
-use Rattle.sheet_text.specs.Sheet.{lumaCount, chromaCount}
-use Rattle.yuv_support.specs.Settings.{depths}
-use lib.ListN.{take}
+use Rattle.sheet_text.proofs.Shown.{places-small, wrote-shown}
 use borrow.Author.Needs.{needs}
 use Rattle.sheet_text.proofs.put_sheet.Statement.{statement}
 use Rattle.sheet_text.proofs.put_sheet.Tie as tie
@@ -18,14 +15,12 @@ places-of-requires : tie.Need-places-of-requires
 places-of-requires c κs = search needs
 
 put-table-requires : tie.Need-put-table-requires
-put-table-requires c κs = rw (c .before .before .places-of .ensures) (places-small depths (c .before .before .before .before .before .before .before .before .before .args .v) (c .before .before .before .before .before .before .before .before .before .pre .0))
+put-table-requires c κs = rw (c .before .before .places-of .ensures) (places-small (c .before .before .before .before .before .before .before .before .before .pre .0))
 
 returns : tie.Need-returns
 returns c =
-    let e = c .put-table .ensures in
-    let p = c .before .before .before .places-of .ensures in
-    let t = shown-table (c .before .before .before .before .before .before .before .before .before .before .args .v) (take (lumaCount (c .before .before .before .before .before .before .before .before .before .before .args .v)) (c .before .before .before .before .before .before .before .before .before .before .args .y .now)) (take (chromaCount (c .before .before .before .before .before .before .before .before .before .before .args .v)) (c .before .before .before .before .before .before .before .before .before .before .args .u .now)) (take (chromaCount (c .before .before .before .before .before .before .before .before .before .before .args .v)) (c .before .before .before .before .before .before .before .before .before .before .args .w .now)) (c .before .before .before .before .before .convert .last .1 .1 .1 .1 .0) (c .before .before .before .before .before .convert .ensures) in
-    rw (← t) (rw p at e)
+    let shown = c .before .before .before .before .before .convert in
+    wrote-shown _ _ _ (shown .last .1 .1 .1 .1 .0) (c .before .before .before .before .before .before .before .before .before .before .pre .0) (c .before .before .before .places-of .ensures) (shown .ensures) (c .put-table .ensures)
 
 pub put-sheet-spec : {M : Type 1} → statement M
 put-sheet-spec =

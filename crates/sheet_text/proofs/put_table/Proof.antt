@@ -1,4 +1,4 @@
--- `sheet_text::put_table` meets its contract.
+-- `sheet_text::put_table` meets its contract: the heading, and after it the lines of all rows.
 -- Assumes nothing.
 use Rattle.sheet_text.proofs.Write.{wrote-then}
 use borrow.Author.Needs.{needs}

@@ -1,9 +1,7 @@
--- `sheet_text::read_lines` meets its contract.
+-- `sheet_text::read_lines` meets its contract: one number more at each turn of the loop (`Reading`), up to the first that is not well formed.
 -- Assumes nothing.
-use Rattle.sheet_text.specs.Read.{numberRead}
-use Rattle.sheet_text.proofs.ManyNumbers.{Reading, reading-none, reading-one, reading-missed, reading-above, reading-refused, reading-done}
+use Rattle.sheet_text.proofs.ManyNumbers.{Reading, reading-none, reading-one, reading-missed, reading-above, reading-done}
 use Prim.Native.Nat.{_-_}
-use mathlib.Core.Path.{_≡_, sym, ap, _∙_}
 use borrow.Author.Needs.{needs}
 use native.Mathlib.Omega.{arith}
 use Rattle.sheet_text.proofs.read_lines.Statement.{statement}
@@ -16,10 +14,10 @@ abbrev μ-loop : tie.MeasureT-loop
 μ-loop s at width limit n numbers₀ place₀ i₀ numbers place i = n - i
 
 loop-holds : tie.Need-loop-holds Inv-loop μ-loop
-loop-holds c = reading-none (c .before .before .args .s .now) (c .before .before .args .at) (c .before .before .args .width) (c .before .before .args .limit) (c .before .before .args .n) (c .before .before .args .numbers .now) (c .before .before .pre .0)
+loop-holds c = reading-none (c .before .before .pre .0)
 
 ending-of-requires : tie.Need-ending-of-requires Inv-loop μ-loop
-ending-of-requires c κs = omega (arith, c .before .before .before .before .pre)
+ending-of-requires c κs = omega arith
 
 read-number-requires : tie.Need-read-number-requires Inv-loop μ-loop
 read-number-requires c κs = c .before .before .loop .inv .within
@@ -31,10 +29,7 @@ same-length : tie.Need-same-length Inv-loop μ-loop
 same-length c = c .before .before .before .before .before .loop .inv .kept
 
 returns : tie.Need-returns Inv-loop μ-loop
-returns c =
-    reading-refused (c .before .before .before .before .before .before .before .before .args .s .now) (c .before .before .before .before .before .before .before .before .args .at) (c .before .before .before .before .before .before .before .before .args .width) (c .before .before .before .before .before .before .before .before .args .limit) (c .before .before .before .before .before .before .before .before .args .n) (c .before .before .before .before .before .before .before .before .args .numbers .now)
-    (reading-missed (c .before .before .before .before .before .before .before .before .args .s .now) (c .before .before .before .before .before .before .before .before .args .at) (c .before .before .before .before .before .before .before .before .args .width) (c .before .before .before .before .before .before .before .before .args .limit) (c .before .before .before .before .before .before .before .before .args .n) (c .before .before .before .before .before .before .before .before .args .numbers .now) (c .before .before .before .before .before .loop .inv) (c .before .before .before .before .loop-test .taken)
-    (ap (numberRead (c .before .before .before .before .before .before .before .before .args .s .now) (c .before .before .before .before .before .loop .place)) (sym (c .before .before .before .ending-of .ensures)) ∙ sym (c .before .before .read-number .ensures) ∙ c .enum-told .given .1))
+returns c = reading-missed (c .before .before .before .before .before .loop .inv) (c .before .before .before .before .loop-test .taken) (c .before .before .before .ending-of .ensures) (c .before .before .read-number .ensures) (c .enum-told .given .1)
 
 enum-known-number : tie.Need-enum-known-number Inv-loop μ-loop
 enum-known-number c = search needs
@@ -43,33 +38,28 @@ same-length-2 : tie.Need-same-length-2 Inv-loop μ-loop
 same-length-2 c = c .before .before .before .before .before .before .before .loop .inv .kept
 
 returns-2 : tie.Need-returns-2 Inv-loop μ-loop
-returns-2 c =
-    reading-refused (c .before .before .before .before .before .before .before .before .before .before .args .s .now) (c .before .before .before .before .before .before .before .before .before .before .args .at) (c .before .before .before .before .before .before .before .before .before .before .args .width) (c .before .before .before .before .before .before .before .before .before .before .args .limit) (c .before .before .before .before .before .before .before .before .before .before .args .n) (c .before .before .before .before .before .before .before .before .before .before .args .numbers .now)
-    (reading-above (c .before .before .before .before .before .before .before .before .before .before .args .s .now) (c .before .before .before .before .before .before .before .before .before .before .args .at) (c .before .before .before .before .before .before .before .before .before .before .args .width) (c .before .before .before .before .before .before .before .before .before .before .args .limit) (c .before .before .before .before .before .before .before .before .before .before .args .n) (c .before .before .before .before .before .before .before .before .before .before .args .numbers .now) (c .before .before .number .given .0 .0) (c .before .before .number .given .0 .1 .0) (c .before .before .before .before .before .before .before .loop .inv) (c .before .before .before .before .before .before .loop-test .taken)
-    (ap (numberRead (c .before .before .before .before .before .before .before .before .before .before .args .s .now) (c .before .before .before .before .before .before .before .loop .place)) (sym (c .before .before .before .before .before .ending-of .ensures)) ∙ sym (c .before .before .before .before .read-number .ensures) ∙ c .before .before .number .given .1) (c .if1 .taken))
+returns-2 c = reading-above (c .before .before .before .before .before .before .before .loop .inv) (c .before .before .before .before .before .before .loop-test .taken) (c .before .before .before .before .before .ending-of .ensures) (c .before .before .before .before .read-number .ensures) (c .before .before .number .given .1) (c .if1 .taken)
 
 mul-numbers : tie.Need-mul-numbers Inv-loop μ-loop
-mul-numbers c = omega (arith, c .before .before .before .before .before .before .before .before .before .before .pre, c .before .before .before .before .before .before .loop-test .taken)
+mul-numbers c = omega arith
 
 slice-write-numbers : tie.Need-slice-write-numbers Inv-loop μ-loop
-slice-write-numbers c = omega (arith, c .before .before .before .before .before .before .before .before .before .before .pre, c .before .before .before .before .before .before .loop-test .taken, c .before .before .before .before .before .before .before .loop .inv .kept)
+slice-write-numbers c = omega arith
 
 add-i : tie.Need-add-i Inv-loop μ-loop
-add-i c = omega (arith, c .before .before .before .before .before .before .before .before .before .before .pre, c .before .before .before .before .before .before .loop-test .taken)
+add-i c = omega arith
 
 loop-less : tie.Need-loop-less Inv-loop μ-loop
-loop-less c = omega (arith, c .before .before .before .before .before .before .loop-test .taken)
+loop-less c = omega arith
 
 loop-again : tie.Need-loop-again Inv-loop μ-loop
-loop-again c =
-    reading-one (c .before .before .before .before .before .before .before .before .before .before .args .s .now) (c .before .before .before .before .before .before .before .before .before .before .args .at) (c .before .before .before .before .before .before .before .before .before .before .args .width) (c .before .before .before .before .before .before .before .before .before .before .args .limit) (c .before .before .before .before .before .before .before .before .before .before .args .n) (c .before .before .before .before .before .before .before .before .before .before .args .numbers .now) (c .before .before .number .given .0 .0) (c .before .before .number .given .0 .1 .0) (c .before .before .before .before .before .before .before .loop .inv) (c .before .before .before .before .before .before .loop-test .taken) (c .before .before .before .before .before .before .before .before .before .before .pre .3)
-    (ap (numberRead (c .before .before .before .before .before .before .before .before .before .before .args .s .now) (c .before .before .before .before .before .before .before .loop .place)) (sym (c .before .before .before .before .before .ending-of .ensures)) ∙ sym (c .before .before .before .before .read-number .ensures) ∙ c .before .before .number .given .1) (c .if1 .left)
+loop-again c = reading-one (c .before .before .before .before .before .before .before .loop .inv) (c .before .before .before .before .before .before .loop-test .taken) (c .before .before .before .before .before .ending-of .ensures) (c .before .before .before .before .read-number .ensures) (c .before .before .number .given .1) (c .if1 .left) (c .before .before .before .before .before .before .before .before .before .before .pre .3)
 
 same-length-3 : tie.Need-same-length-3 Inv-loop μ-loop
 same-length-3 c = c .before .loop .inv .kept
 
 returns-3 : tie.Need-returns-3 Inv-loop μ-loop
-returns-3 c = reading-done (c .before .before .before .before .args .s .now) (c .before .before .before .before .args .at) (c .before .before .before .before .args .width) (c .before .before .before .before .args .limit) (c .before .before .before .before .args .n) (c .before .before .before .before .args .numbers .now) (c .before .loop .inv) (c .loop-test .left)
+returns-3 c = reading-done (c .before .loop .inv) (c .loop-test .left)
 
 pub read-lines-spec : {M : Type 1} → statement M
 read-lines-spec =

@@ -1,13 +1,27 @@
--- `sheet_text::read_planes` meets its contract.
+-- `sheet_text::read_planes` meets its contract: each plane's lines begin where those before them end, and the answer is whether all three are
+-- well formed with nothing over, in an input of at most 64 KiB.
 -- Assumes nothing.
-use Rattle.sheet_text.proofs.PlaneLines.{lines-malformed, lined, lined-same, luma-malformed, cb-malformed, cr-malformed, planes-over, planes-whole}
-use Rattle.sheet_text.proofs.Sizes.{luma-count-most, chroma-count-most}
-use Rattle.sheet_text.specs.Sheet.{lumaCount, chromaCount, lumaBegin, uBegin, vBegin, widest}
-use Rattle.yuv_support.specs.Blend.{chromaWidth}
-use native.Mathlib.Omega.{arith}
+use Rattle.sheet_text.proofs.PlaneLines.{LumaLined, CbLined, CrLined, luma-asks, chroma-asks, luma-lined, chroma-lined, luma-malformed, cb-malformed, cr-malformed, planes-over, planes-whole}
 use borrow.Author.Needs.{needs}
 use Rattle.sheet_text.proofs.read_planes.Statement.{statement}
 use Rattle.sheet_text.proofs.read_planes.Tie as tie
+
+abbrev start : tie.After-luma → tie.Start
+start c = c .before .before .before .before .before .before .before .before .before .before .before .before .before .before
+
+-- the planes, where their lines are read
+luma-read : (c : tie.After-luma) → LumaLined (start c .args .s .now) (start c .args .v) (c .before .before .before .before .read-lines .last .1 .1 .1 .1 .1 .0) (c .luma .given .0 .0)
+luma-read c = luma-lined (start c .pre) (c .before .before .before .before .before .before .before .before .before .widest-of .ensures) (c .before .before .before .before .before .before .before .before .luma-count .ensures) (c .before .before .before .before .read-lines .ensures) (c .luma .given .1)
+
+cb-read : (c : tie.After-cb) → let args = start (c .before .before .before .before .before .before .before) .args in CbLined (args .s .now) (args .v) (c .before .before .before .before .read-lines2 .last .1 .1 .1 .1 .1 .0) (c .cb .given .0 .0)
+cb-read c =
+    let l = c .before .before .before .before .before .before .before in
+    chroma-lined (start l .pre) (l .before .before .before .before .before .before .before .before .before .widest-of .ensures) (l .before .before .before .before .before .before .before .chroma-count .ensures) (luma-read l) (c .before .before .before .before .read-lines2 .ensures) (c .cb .given .1)
+
+cr-read : (c : tie.After-cr) → let args = start (c .before .before .before .before .before .before .before .before .before .before .before .before .before .before) .args in CrLined (args .s .now) (args .v) (c .before .before .before .before .read-lines3 .last .1 .1 .1 .1 .1 .0) (c .cr .given .0 .0)
+cr-read c =
+    let l = c .before .before .before .before .before .before .before .before .before .before .before .before .before .before in
+    chroma-lined (start l .pre) (l .before .before .before .before .before .before .before .before .before .widest-of .ensures) (l .before .before .before .before .before .before .before .chroma-count .ensures) (cb-read (c .before .before .before .before .before .before .before)) (c .before .before .before .before .read-lines3 .ensures) (c .cr .given .1)
 
 widest-of-requires : tie.Need-widest-of-requires
 widest-of-requires c κs = search needs
@@ -25,7 +39,7 @@ add-chroma-width : tie.Need-add-chroma-width
 add-chroma-width c = search needs
 
 read-lines-requires : tie.Need-read-lines-requires
-read-lines-requires c κs = (c .before .before .before .before .before .before .before .before .before .pre .after .within, c .before .before .before .before .before .before .before .before .before .pre .width-least, omega (arith, luma-count-most (c .before .before .before .before .before .before .before .before .before .args .v) (c .before .before .before .before .before .before .before .before .before .pre .width) (c .before .before .before .before .before .before .before .before .before .pre .height), chroma-count-most (c .before .before .before .before .before .before .before .before .before .args .v) (c .before .before .before .before .before .before .before .before .before .pre .width) (c .before .before .before .before .before .before .before .before .before .pre .height), (c .before .before .before .luma-count .ensures), (c .before .before .chroma-count .ensures)), omega (arith, luma-count-most (c .before .before .before .before .before .before .before .before .before .args .v) (c .before .before .before .before .before .before .before .before .before .pre .width) (c .before .before .before .before .before .before .before .before .before .pre .height), chroma-count-most (c .before .before .before .before .before .before .before .before .before .args .v) (c .before .before .before .before .before .before .before .before .before .pre .width) (c .before .before .before .before .before .before .before .before .before .pre .height), (c .before .before .before .luma-count .ensures), (c .before .before .chroma-count .ensures), c .before .before .before .before .before .before .before .before .before .pre .luma))
+read-lines-requires c κs = luma-asks (c .before .before .before .before .before .before .before .before .before .pre) (c .before .before .before .luma-count .ensures)
 
 enum-known-luma : tie.Need-enum-known-luma
 enum-known-luma c = search needs
@@ -37,17 +51,10 @@ same-length : tie.Need-same-length
 same-length c = search needs
 
 returns : tie.Need-returns
-returns c =
-    luma-malformed (c .before .before .before .before .before .before .before .before .before .before .before .before .before .before .args .s .now) (c .before .before .before .before .before .before .before .before .before .before .before .before .before .before .args .v) _ _ _
-    (rw (c .before .before .before .before .before .before .before .before .before .before .before .before .before .before .pre .after .place, c .before .before .before .before .before .before .before .before .before .widest-of .ensures, c .before .before .before .before .before .before .before .before .luma-count .ensures) at (lines-malformed (c .before .before .before .before .before .before .before .before .before .before .before .before .before .before .args .s .now) (c .before .before .before .before .before .before .before .before .before .before .before .before .before .before .args .at) (c .before .before .before .before .before .before .before .before .before .before .before .before .before .before .args .v .width) (c .before .before .before .before .before .before .before .before .before .widest-of .result) (c .before .before .before .before .before .before .before .before .luma-count .result) (c .before .before .before .before .read-lines .result) (c .before .before .before .before .read-lines .ensures .0) (c .enum-told .given .1)))
+returns c = luma-malformed (c .before .before .before .before .before .before .before .before .before .before .before .before .before .before .pre) (c .before .before .before .before .before .before .before .before .before .widest-of .ensures) (c .before .before .before .before .before .before .before .before .luma-count .ensures) (c .before .before .before .before .read-lines .ensures .0) (c .enum-told .given .1)
 
 read-lines-requires-2 : tie.Need-read-lines-requires-2
-read-lines-requires-2 c κs =
-    let l = lined-same (c .before .before .before .before .before .before .before .before .before .before .before .before .before .before .before .before .args .s .now) (c .before .before .before .before .before .before .before .before .before .before .before .before .before .before .before .before .args .at) (lumaBegin (c .before .before .before .before .before .before .before .before .before .before .before .before .before .before .before .before .args .s .now)) (c .before .before .before .before .before .before .before .before .before .before .before .before .before .before .before .before .args .v .width) (c .before .before .before .before .before .before .before .before .before .before .before .widest-of .result) (widest (c .before .before .before .before .before .before .before .before .before .before .before .before .before .before .before .before .args .v)) (c .before .before .before .before .before .before .before .before .before .before .luma-count .result) (lumaCount (c .before .before .before .before .before .before .before .before .before .before .before .before .before .before .before .before .args .v)) (c .before .before .before .before .before .before .read-lines .last .1 .1 .1 .1 .1 .0) (c .before .before .luma .given .0 .0)
-    (c .before .before .before .before .before .before .before .before .before .before .before .before .before .before .before .before .pre .after .place) (c .before .before .before .before .before .before .before .before .before .before .before .widest-of .ensures) (c .before .before .before .before .before .before .before .before .before .before .luma-count .ensures)
-    (lined (c .before .before .before .before .before .before .before .before .before .before .before .before .before .before .before .before .args .s .now) (c .before .before .before .before .before .before .before .before .before .before .before .before .before .before .before .before .args .at) (c .before .before .before .before .before .before .before .before .before .before .before .before .before .before .before .before .args .v .width) (c .before .before .before .before .before .before .before .before .before .before .before .widest-of .result) (c .before .before .before .before .before .before .before .before .before .before .luma-count .result) (c .before .before .before .before .before .before .read-lines .last .1 .1 .1 .1 .1 .0) (c .before .before .luma .given .0 .0) (c .before .before .before .before .before .before .read-lines .result)
-    (c .before .before .before .before .before .before .before .before .before .before .before .before .before .before .before .before .pre .after .within) (c .before .before .before .before .before .before .read-lines .ensures .0) (c .before .before .before .before .before .before .read-lines .ensures .1) (c .before .before .luma .given .1)) in
-    (l .within, omega (arith, c .before .before .before .before .before .before .before .before .before .before .before .before .before .before .before .before .pre .width-least), omega (arith, luma-count-most (c .before .before .before .before .before .before .before .before .before .before .before .before .before .before .before .before .args .v) (c .before .before .before .before .before .before .before .before .before .before .before .before .before .before .before .before .pre .width) (c .before .before .before .before .before .before .before .before .before .before .before .before .before .before .before .before .pre .height), chroma-count-most (c .before .before .before .before .before .before .before .before .before .before .before .before .before .before .before .before .args .v) (c .before .before .before .before .before .before .before .before .before .before .before .before .before .before .before .before .pre .width) (c .before .before .before .before .before .before .before .before .before .before .before .before .before .before .before .before .pre .height), (c .before .before .before .before .before .before .before .before .before .before .luma-count .ensures), (c .before .before .before .before .before .before .before .before .before .chroma-count .ensures)), omega (arith, luma-count-most (c .before .before .before .before .before .before .before .before .before .before .before .before .before .before .before .before .args .v) (c .before .before .before .before .before .before .before .before .before .before .before .before .before .before .before .before .pre .width) (c .before .before .before .before .before .before .before .before .before .before .before .before .before .before .before .before .pre .height), chroma-count-most (c .before .before .before .before .before .before .before .before .before .before .before .before .before .before .before .before .args .v) (c .before .before .before .before .before .before .before .before .before .before .before .before .before .before .before .before .pre .width) (c .before .before .before .before .before .before .before .before .before .before .before .before .before .before .before .before .pre .height), (c .before .before .before .before .before .before .before .before .before .before .luma-count .ensures), (c .before .before .before .before .before .before .before .before .before .chroma-count .ensures), c .before .before .before .before .before .before .before .before .before .before .before .before .before .before .before .before .pre .cb))
+read-lines-requires-2 c κs = let l = c .before .before in chroma-asks (start l .pre) (l .before .before .before .before .before .before .before .chroma-count .ensures) (luma-read l .within) (start l .pre .cb)
 
 enum-known-cb : tie.Need-enum-known-cb
 enum-known-cb c = search needs
@@ -63,24 +70,11 @@ same-length-3 c = search needs
 
 returns-2 : tie.Need-returns-2
 returns-2 c =
-    let l = lined-same (c .before .before .before .before .before .before .before .before .before .before .before .before .before .before .before .before .before .before .before .before .before .args .s .now) (c .before .before .before .before .before .before .before .before .before .before .before .before .before .before .before .before .before .before .before .before .before .args .at) (lumaBegin (c .before .before .before .before .before .before .before .before .before .before .before .before .before .before .before .before .before .before .before .before .before .args .s .now)) (c .before .before .before .before .before .before .before .before .before .before .before .before .before .before .before .before .before .before .before .before .before .args .v .width) (c .before .before .before .before .before .before .before .before .before .before .before .before .before .before .before .before .widest-of .result) (widest (c .before .before .before .before .before .before .before .before .before .before .before .before .before .before .before .before .before .before .before .before .before .args .v)) (c .before .before .before .before .before .before .before .before .before .before .before .before .before .before .before .luma-count .result) (lumaCount (c .before .before .before .before .before .before .before .before .before .before .before .before .before .before .before .before .before .before .before .before .before .args .v)) (c .before .before .before .before .before .before .before .before .before .before .before .read-lines .last .1 .1 .1 .1 .1 .0) (c .before .before .before .before .before .before .before .luma .given .0 .0)
-    (c .before .before .before .before .before .before .before .before .before .before .before .before .before .before .before .before .before .before .before .before .before .pre .after .place) (c .before .before .before .before .before .before .before .before .before .before .before .before .before .before .before .before .widest-of .ensures) (c .before .before .before .before .before .before .before .before .before .before .before .before .before .before .before .luma-count .ensures)
-    (lined (c .before .before .before .before .before .before .before .before .before .before .before .before .before .before .before .before .before .before .before .before .before .args .s .now) (c .before .before .before .before .before .before .before .before .before .before .before .before .before .before .before .before .before .before .before .before .before .args .at) (c .before .before .before .before .before .before .before .before .before .before .before .before .before .before .before .before .before .before .before .before .before .args .v .width) (c .before .before .before .before .before .before .before .before .before .before .before .before .before .before .before .before .widest-of .result) (c .before .before .before .before .before .before .before .before .before .before .before .before .before .before .before .luma-count .result) (c .before .before .before .before .before .before .before .before .before .before .before .read-lines .last .1 .1 .1 .1 .1 .0) (c .before .before .before .before .before .before .before .luma .given .0 .0) (c .before .before .before .before .before .before .before .before .before .before .before .read-lines .result)
-    (c .before .before .before .before .before .before .before .before .before .before .before .before .before .before .before .before .before .before .before .before .before .pre .after .within) (c .before .before .before .before .before .before .before .before .before .before .before .read-lines .ensures .0) (c .before .before .before .before .before .before .before .before .before .before .before .read-lines .ensures .1) (c .before .before .before .before .before .before .before .luma .given .1)) in
-    cb-malformed (c .before .before .before .before .before .before .before .before .before .before .before .before .before .before .before .before .before .before .before .before .before .args .s .now) (c .before .before .before .before .before .before .before .before .before .before .before .before .before .before .before .before .before .before .before .before .before .args .v) _ _ _ (c .before .before .before .before .before .before .before .luma .given .0 .0) l
-    (rw (l .end, c .before .before .before .before .before .before .before .before .before .before .before .before .before .before .before .before .widest-of .ensures, c .before .before .before .before .before .before .before .before .before .before .before .before .before .before .chroma-count .ensures) at (lines-malformed (c .before .before .before .before .before .before .before .before .before .before .before .before .before .before .before .before .before .before .before .before .before .args .s .now) (c .before .before .before .before .before .before .before .luma .given .0 .0) (chromaWidth (c .before .before .before .before .before .before .before .before .before .before .before .before .before .before .before .before .before .before .before .before .before .args .v .width)) (c .before .before .before .before .before .before .before .before .before .before .before .before .before .before .before .before .widest-of .result) (c .before .before .before .before .before .before .before .before .before .before .before .before .before .before .chroma-count .result) (c .before .before .before .before .read-lines2 .result) (c .before .before .before .before .read-lines2 .ensures .0) (c .enum-told2 .given .1)))
+    let l = c .before .before .before .before .before .before .before in
+    cb-malformed (start l .pre) (l .before .before .before .before .before .before .before .before .before .widest-of .ensures) (l .before .before .before .before .before .before .before .chroma-count .ensures) (luma-read l) (c .before .before .before .before .read-lines2 .ensures .0) (c .enum-told2 .given .1)
 
 read-lines-requires-3 : tie.Need-read-lines-requires-3
-read-lines-requires-3 c κs =
-    let l = lined-same (c .before .before .before .before .before .before .before .before .before .before .before .before .before .before .before .before .before .before .before .before .before .before .before .args .s .now) (c .before .before .before .before .before .before .before .before .before .before .before .before .before .before .before .before .before .before .before .before .before .before .before .args .at) (lumaBegin (c .before .before .before .before .before .before .before .before .before .before .before .before .before .before .before .before .before .before .before .before .before .before .before .args .s .now)) (c .before .before .before .before .before .before .before .before .before .before .before .before .before .before .before .before .before .before .before .before .before .before .before .args .v .width) (c .before .before .before .before .before .before .before .before .before .before .before .before .before .before .before .before .before .before .widest-of .result) (widest (c .before .before .before .before .before .before .before .before .before .before .before .before .before .before .before .before .before .before .before .before .before .before .before .args .v)) (c .before .before .before .before .before .before .before .before .before .before .before .before .before .before .before .before .before .luma-count .result) (lumaCount (c .before .before .before .before .before .before .before .before .before .before .before .before .before .before .before .before .before .before .before .before .before .before .before .args .v)) (c .before .before .before .before .before .before .before .before .before .before .before .before .before .read-lines .last .1 .1 .1 .1 .1 .0) (c .before .before .before .before .before .before .before .before .before .luma .given .0 .0)
-    (c .before .before .before .before .before .before .before .before .before .before .before .before .before .before .before .before .before .before .before .before .before .before .before .pre .after .place) (c .before .before .before .before .before .before .before .before .before .before .before .before .before .before .before .before .before .before .widest-of .ensures) (c .before .before .before .before .before .before .before .before .before .before .before .before .before .before .before .before .before .luma-count .ensures)
-    (lined (c .before .before .before .before .before .before .before .before .before .before .before .before .before .before .before .before .before .before .before .before .before .before .before .args .s .now) (c .before .before .before .before .before .before .before .before .before .before .before .before .before .before .before .before .before .before .before .before .before .before .before .args .at) (c .before .before .before .before .before .before .before .before .before .before .before .before .before .before .before .before .before .before .before .before .before .before .before .args .v .width) (c .before .before .before .before .before .before .before .before .before .before .before .before .before .before .before .before .before .before .widest-of .result) (c .before .before .before .before .before .before .before .before .before .before .before .before .before .before .before .before .before .luma-count .result) (c .before .before .before .before .before .before .before .before .before .before .before .before .before .read-lines .last .1 .1 .1 .1 .1 .0) (c .before .before .before .before .before .before .before .before .before .luma .given .0 .0) (c .before .before .before .before .before .before .before .before .before .before .before .before .before .read-lines .result)
-    (c .before .before .before .before .before .before .before .before .before .before .before .before .before .before .before .before .before .before .before .before .before .before .before .pre .after .within) (c .before .before .before .before .before .before .before .before .before .before .before .before .before .read-lines .ensures .0) (c .before .before .before .before .before .before .before .before .before .before .before .before .before .read-lines .ensures .1) (c .before .before .before .before .before .before .before .before .before .luma .given .1)) in
-    let m = lined-same (c .before .before .before .before .before .before .before .before .before .before .before .before .before .before .before .before .before .before .before .before .before .before .before .args .s .now) (c .before .before .before .before .before .before .before .before .before .luma .given .0 .0) (uBegin (c .before .before .before .before .before .before .before .before .before .before .before .before .before .before .before .before .before .before .before .before .before .before .before .args .s .now) (c .before .before .before .before .before .before .before .before .before .before .before .before .before .before .before .before .before .before .before .before .before .before .before .args .v)) (chromaWidth (c .before .before .before .before .before .before .before .before .before .before .before .before .before .before .before .before .before .before .before .before .before .before .before .args .v .width)) (c .before .before .before .before .before .before .before .before .before .before .before .before .before .before .before .before .before .before .widest-of .result) (widest (c .before .before .before .before .before .before .before .before .before .before .before .before .before .before .before .before .before .before .before .before .before .before .before .args .v)) (c .before .before .before .before .before .before .before .before .before .before .before .before .before .before .before .before .chroma-count .result) (chromaCount (c .before .before .before .before .before .before .before .before .before .before .before .before .before .before .before .before .before .before .before .before .before .before .before .args .v)) (c .before .before .before .before .before .before .read-lines2 .last .1 .1 .1 .1 .1 .0) (c .before .before .cb .given .0 .0)
-    (l .end) (c .before .before .before .before .before .before .before .before .before .before .before .before .before .before .before .before .before .before .widest-of .ensures) (c .before .before .before .before .before .before .before .before .before .before .before .before .before .before .before .before .chroma-count .ensures)
-    (lined (c .before .before .before .before .before .before .before .before .before .before .before .before .before .before .before .before .before .before .before .before .before .before .before .args .s .now) (c .before .before .before .before .before .before .before .before .before .luma .given .0 .0) (chromaWidth (c .before .before .before .before .before .before .before .before .before .before .before .before .before .before .before .before .before .before .before .before .before .before .before .args .v .width)) (c .before .before .before .before .before .before .before .before .before .before .before .before .before .before .before .before .before .before .widest-of .result) (c .before .before .before .before .before .before .before .before .before .before .before .before .before .before .before .before .chroma-count .result) (c .before .before .before .before .before .before .read-lines2 .last .1 .1 .1 .1 .1 .0) (c .before .before .cb .given .0 .0) (c .before .before .before .before .before .before .read-lines2 .result)
-    (l .within) (c .before .before .before .before .before .before .read-lines2 .ensures .0) (c .before .before .before .before .before .before .read-lines2 .ensures .1) (c .before .before .cb .given .1)) in
-    (m .within, omega (arith, c .before .before .before .before .before .before .before .before .before .before .before .before .before .before .before .before .before .before .before .before .before .before .before .pre .width-least), omega (arith, luma-count-most (c .before .before .before .before .before .before .before .before .before .before .before .before .before .before .before .before .before .before .before .before .before .before .before .args .v) (c .before .before .before .before .before .before .before .before .before .before .before .before .before .before .before .before .before .before .before .before .before .before .before .pre .width) (c .before .before .before .before .before .before .before .before .before .before .before .before .before .before .before .before .before .before .before .before .before .before .before .pre .height), chroma-count-most (c .before .before .before .before .before .before .before .before .before .before .before .before .before .before .before .before .before .before .before .before .before .before .before .args .v) (c .before .before .before .before .before .before .before .before .before .before .before .before .before .before .before .before .before .before .before .before .before .before .before .pre .width) (c .before .before .before .before .before .before .before .before .before .before .before .before .before .before .before .before .before .before .before .before .before .before .before .pre .height), (c .before .before .before .before .before .before .before .before .before .before .before .before .before .before .before .before .before .luma-count .ensures), (c .before .before .before .before .before .before .before .before .before .before .before .before .before .before .before .before .chroma-count .ensures)), omega (arith, luma-count-most (c .before .before .before .before .before .before .before .before .before .before .before .before .before .before .before .before .before .before .before .before .before .before .before .args .v) (c .before .before .before .before .before .before .before .before .before .before .before .before .before .before .before .before .before .before .before .before .before .before .before .pre .width) (c .before .before .before .before .before .before .before .before .before .before .before .before .before .before .before .before .before .before .before .before .before .before .before .pre .height), chroma-count-most (c .before .before .before .before .before .before .before .before .before .before .before .before .before .before .before .before .before .before .before .before .before .before .before .args .v) (c .before .before .before .before .before .before .before .before .before .before .before .before .before .before .before .before .before .before .before .before .before .before .before .pre .width) (c .before .before .before .before .before .before .before .before .before .before .before .before .before .before .before .before .before .before .before .before .before .before .before .pre .height), (c .before .before .before .before .before .before .before .before .before .before .before .before .before .before .before .before .before .luma-count .ensures), (c .before .before .before .before .before .before .before .before .before .before .before .before .before .before .before .before .chroma-count .ensures), c .before .before .before .before .before .before .before .before .before .before .before .before .before .before .before .before .before .before .before .before .before .before .before .pre .cr))
+read-lines-requires-3 c κs = let l = c .before .before .before .before .before .before .before .before .before in chroma-asks (start l .pre) (l .before .before .before .before .before .before .before .chroma-count .ensures) (cb-read (c .before .before) .within) (start l .pre .cr)
 
 enum-known-cr : tie.Need-enum-known-cr
 enum-known-cr c = search needs
@@ -99,16 +93,8 @@ same-length-6 c = search needs
 
 returns-3 : tie.Need-returns-3
 returns-3 c =
-    let l = lined-same (c .before .before .before .before .before .before .before .before .before .before .before .before .before .before .before .before .before .before .before .before .before .before .before .before .before .before .before .before .args .s .now) (c .before .before .before .before .before .before .before .before .before .before .before .before .before .before .before .before .before .before .before .before .before .before .before .before .before .before .before .before .args .at) (lumaBegin (c .before .before .before .before .before .before .before .before .before .before .before .before .before .before .before .before .before .before .before .before .before .before .before .before .before .before .before .before .args .s .now)) (c .before .before .before .before .before .before .before .before .before .before .before .before .before .before .before .before .before .before .before .before .before .before .before .before .before .before .before .before .args .v .width) (c .before .before .before .before .before .before .before .before .before .before .before .before .before .before .before .before .before .before .before .before .before .before .before .widest-of .result) (widest (c .before .before .before .before .before .before .before .before .before .before .before .before .before .before .before .before .before .before .before .before .before .before .before .before .before .before .before .before .args .v)) (c .before .before .before .before .before .before .before .before .before .before .before .before .before .before .before .before .before .before .before .before .before .before .luma-count .result) (lumaCount (c .before .before .before .before .before .before .before .before .before .before .before .before .before .before .before .before .before .before .before .before .before .before .before .before .before .before .before .before .args .v)) (c .before .before .before .before .before .before .before .before .before .before .before .before .before .before .before .before .before .before .read-lines .last .1 .1 .1 .1 .1 .0) (c .before .before .before .before .before .before .before .before .before .before .before .before .before .before .luma .given .0 .0)
-    (c .before .before .before .before .before .before .before .before .before .before .before .before .before .before .before .before .before .before .before .before .before .before .before .before .before .before .before .before .pre .after .place) (c .before .before .before .before .before .before .before .before .before .before .before .before .before .before .before .before .before .before .before .before .before .before .before .widest-of .ensures) (c .before .before .before .before .before .before .before .before .before .before .before .before .before .before .before .before .before .before .before .before .before .before .luma-count .ensures)
-    (lined (c .before .before .before .before .before .before .before .before .before .before .before .before .before .before .before .before .before .before .before .before .before .before .before .before .before .before .before .before .args .s .now) (c .before .before .before .before .before .before .before .before .before .before .before .before .before .before .before .before .before .before .before .before .before .before .before .before .before .before .before .before .args .at) (c .before .before .before .before .before .before .before .before .before .before .before .before .before .before .before .before .before .before .before .before .before .before .before .before .before .before .before .before .args .v .width) (c .before .before .before .before .before .before .before .before .before .before .before .before .before .before .before .before .before .before .before .before .before .before .before .widest-of .result) (c .before .before .before .before .before .before .before .before .before .before .before .before .before .before .before .before .before .before .before .before .before .before .luma-count .result) (c .before .before .before .before .before .before .before .before .before .before .before .before .before .before .before .before .before .before .read-lines .last .1 .1 .1 .1 .1 .0) (c .before .before .before .before .before .before .before .before .before .before .before .before .before .before .luma .given .0 .0) (c .before .before .before .before .before .before .before .before .before .before .before .before .before .before .before .before .before .before .read-lines .result)
-    (c .before .before .before .before .before .before .before .before .before .before .before .before .before .before .before .before .before .before .before .before .before .before .before .before .before .before .before .before .pre .after .within) (c .before .before .before .before .before .before .before .before .before .before .before .before .before .before .before .before .before .before .read-lines .ensures .0) (c .before .before .before .before .before .before .before .before .before .before .before .before .before .before .before .before .before .before .read-lines .ensures .1) (c .before .before .before .before .before .before .before .before .before .before .before .before .before .before .luma .given .1)) in
-    let m = lined-same (c .before .before .before .before .before .before .before .before .before .before .before .before .before .before .before .before .before .before .before .before .before .before .before .before .before .before .before .before .args .s .now) (c .before .before .before .before .before .before .before .before .before .before .before .before .before .before .luma .given .0 .0) (uBegin (c .before .before .before .before .before .before .before .before .before .before .before .before .before .before .before .before .before .before .before .before .before .before .before .before .before .before .before .before .args .s .now) (c .before .before .before .before .before .before .before .before .before .before .before .before .before .before .before .before .before .before .before .before .before .before .before .before .before .before .before .before .args .v)) (chromaWidth (c .before .before .before .before .before .before .before .before .before .before .before .before .before .before .before .before .before .before .before .before .before .before .before .before .before .before .before .before .args .v .width)) (c .before .before .before .before .before .before .before .before .before .before .before .before .before .before .before .before .before .before .before .before .before .before .before .widest-of .result) (widest (c .before .before .before .before .before .before .before .before .before .before .before .before .before .before .before .before .before .before .before .before .before .before .before .before .before .before .before .before .args .v)) (c .before .before .before .before .before .before .before .before .before .before .before .before .before .before .before .before .before .before .before .before .before .chroma-count .result) (chromaCount (c .before .before .before .before .before .before .before .before .before .before .before .before .before .before .before .before .before .before .before .before .before .before .before .before .before .before .before .before .args .v)) (c .before .before .before .before .before .before .before .before .before .before .before .read-lines2 .last .1 .1 .1 .1 .1 .0) (c .before .before .before .before .before .before .before .cb .given .0 .0)
-    (l .end) (c .before .before .before .before .before .before .before .before .before .before .before .before .before .before .before .before .before .before .before .before .before .before .before .widest-of .ensures) (c .before .before .before .before .before .before .before .before .before .before .before .before .before .before .before .before .before .before .before .before .before .chroma-count .ensures)
-    (lined (c .before .before .before .before .before .before .before .before .before .before .before .before .before .before .before .before .before .before .before .before .before .before .before .before .before .before .before .before .args .s .now) (c .before .before .before .before .before .before .before .before .before .before .before .before .before .before .luma .given .0 .0) (chromaWidth (c .before .before .before .before .before .before .before .before .before .before .before .before .before .before .before .before .before .before .before .before .before .before .before .before .before .before .before .before .args .v .width)) (c .before .before .before .before .before .before .before .before .before .before .before .before .before .before .before .before .before .before .before .before .before .before .before .widest-of .result) (c .before .before .before .before .before .before .before .before .before .before .before .before .before .before .before .before .before .before .before .before .before .chroma-count .result) (c .before .before .before .before .before .before .before .before .before .before .before .read-lines2 .last .1 .1 .1 .1 .1 .0) (c .before .before .before .before .before .before .before .cb .given .0 .0) (c .before .before .before .before .before .before .before .before .before .before .before .read-lines2 .result)
-    (l .within) (c .before .before .before .before .before .before .before .before .before .before .before .read-lines2 .ensures .0) (c .before .before .before .before .before .before .before .before .before .before .before .read-lines2 .ensures .1) (c .before .before .before .before .before .before .before .cb .given .1)) in
-    cr-malformed (c .before .before .before .before .before .before .before .before .before .before .before .before .before .before .before .before .before .before .before .before .before .before .before .before .before .before .before .before .args .s .now) (c .before .before .before .before .before .before .before .before .before .before .before .before .before .before .before .before .before .before .before .before .before .before .before .before .before .before .before .before .args .v) _ _ _ (c .before .before .before .before .before .before .before .before .before .before .before .before .before .before .luma .given .0 .0) (c .before .before .before .before .before .before .before .cb .given .0 .0) l m
-    (rw (m .end, c .before .before .before .before .before .before .before .before .before .before .before .before .before .before .before .before .before .before .before .before .before .before .before .widest-of .ensures, c .before .before .before .before .before .before .before .before .before .before .before .before .before .before .before .before .before .before .before .before .before .chroma-count .ensures) at (lines-malformed (c .before .before .before .before .before .before .before .before .before .before .before .before .before .before .before .before .before .before .before .before .before .before .before .before .before .before .before .before .args .s .now) (c .before .before .before .before .before .before .before .cb .given .0 .0) (chromaWidth (c .before .before .before .before .before .before .before .before .before .before .before .before .before .before .before .before .before .before .before .before .before .before .before .before .before .before .before .before .args .v .width)) (c .before .before .before .before .before .before .before .before .before .before .before .before .before .before .before .before .before .before .before .before .before .before .before .widest-of .result) (c .before .before .before .before .before .before .before .before .before .before .before .before .before .before .before .before .before .before .before .before .before .chroma-count .result) (c .before .before .before .before .read-lines3 .result) (c .before .before .before .before .read-lines3 .ensures .0) (c .enum-told3 .given .1)))
+    let l = c .before .before .before .before .before .before .before .before .before .before .before .before .before .before in
+    cr-malformed (start l .pre) (l .before .before .before .before .before .before .before .before .before .widest-of .ensures) (l .before .before .before .before .before .before .before .chroma-count .ensures) (luma-read l) (cb-read (c .before .before .before .before .before .before .before)) (c .before .before .before .before .read-lines3 .ensures .0) (c .enum-told3 .given .1)
 
 same-length-7 : tie.Need-same-length-7
 same-length-7 c = search needs
@@ -120,20 +106,7 @@ same-length-9 : tie.Need-same-length-9
 same-length-9 c = search needs
 
 returns-4 : tie.Need-returns-4
-returns-4 c =
-    let l = lined-same (c .before .before .before .before .before .before .before .before .before .before .before .before .before .before .before .before .before .before .before .before .before .before .before .before .before .before .before .before .before .before .args .s .now) (c .before .before .before .before .before .before .before .before .before .before .before .before .before .before .before .before .before .before .before .before .before .before .before .before .before .before .before .before .before .before .args .at) (lumaBegin (c .before .before .before .before .before .before .before .before .before .before .before .before .before .before .before .before .before .before .before .before .before .before .before .before .before .before .before .before .before .before .args .s .now)) (c .before .before .before .before .before .before .before .before .before .before .before .before .before .before .before .before .before .before .before .before .before .before .before .before .before .before .before .before .before .before .args .v .width) (c .before .before .before .before .before .before .before .before .before .before .before .before .before .before .before .before .before .before .before .before .before .before .before .before .before .widest-of .result) (widest (c .before .before .before .before .before .before .before .before .before .before .before .before .before .before .before .before .before .before .before .before .before .before .before .before .before .before .before .before .before .before .args .v)) (c .before .before .before .before .before .before .before .before .before .before .before .before .before .before .before .before .before .before .before .before .before .before .before .before .luma-count .result) (lumaCount (c .before .before .before .before .before .before .before .before .before .before .before .before .before .before .before .before .before .before .before .before .before .before .before .before .before .before .before .before .before .before .args .v)) (c .before .before .before .before .before .before .before .before .before .before .before .before .before .before .before .before .before .before .before .before .read-lines .last .1 .1 .1 .1 .1 .0) (c .before .before .before .before .before .before .before .before .before .before .before .before .before .before .before .before .luma .given .0 .0)
-    (c .before .before .before .before .before .before .before .before .before .before .before .before .before .before .before .before .before .before .before .before .before .before .before .before .before .before .before .before .before .before .pre .after .place) (c .before .before .before .before .before .before .before .before .before .before .before .before .before .before .before .before .before .before .before .before .before .before .before .before .before .widest-of .ensures) (c .before .before .before .before .before .before .before .before .before .before .before .before .before .before .before .before .before .before .before .before .before .before .before .before .luma-count .ensures)
-    (lined (c .before .before .before .before .before .before .before .before .before .before .before .before .before .before .before .before .before .before .before .before .before .before .before .before .before .before .before .before .before .before .args .s .now) (c .before .before .before .before .before .before .before .before .before .before .before .before .before .before .before .before .before .before .before .before .before .before .before .before .before .before .before .before .before .before .args .at) (c .before .before .before .before .before .before .before .before .before .before .before .before .before .before .before .before .before .before .before .before .before .before .before .before .before .before .before .before .before .before .args .v .width) (c .before .before .before .before .before .before .before .before .before .before .before .before .before .before .before .before .before .before .before .before .before .before .before .before .before .widest-of .result) (c .before .before .before .before .before .before .before .before .before .before .before .before .before .before .before .before .before .before .before .before .before .before .before .before .luma-count .result) (c .before .before .before .before .before .before .before .before .before .before .before .before .before .before .before .before .before .before .before .before .read-lines .last .1 .1 .1 .1 .1 .0) (c .before .before .before .before .before .before .before .before .before .before .before .before .before .before .before .before .luma .given .0 .0) (c .before .before .before .before .before .before .before .before .before .before .before .before .before .before .before .before .before .before .before .before .read-lines .result)
-    (c .before .before .before .before .before .before .before .before .before .before .before .before .before .before .before .before .before .before .before .before .before .before .before .before .before .before .before .before .before .before .pre .after .within) (c .before .before .before .before .before .before .before .before .before .before .before .before .before .before .before .before .before .before .before .before .read-lines .ensures .0) (c .before .before .before .before .before .before .before .before .before .before .before .before .before .before .before .before .before .before .before .before .read-lines .ensures .1) (c .before .before .before .before .before .before .before .before .before .before .before .before .before .before .before .before .luma .given .1)) in
-    let m = lined-same (c .before .before .before .before .before .before .before .before .before .before .before .before .before .before .before .before .before .before .before .before .before .before .before .before .before .before .before .before .before .before .args .s .now) (c .before .before .before .before .before .before .before .before .before .before .before .before .before .before .before .before .luma .given .0 .0) (uBegin (c .before .before .before .before .before .before .before .before .before .before .before .before .before .before .before .before .before .before .before .before .before .before .before .before .before .before .before .before .before .before .args .s .now) (c .before .before .before .before .before .before .before .before .before .before .before .before .before .before .before .before .before .before .before .before .before .before .before .before .before .before .before .before .before .before .args .v)) (chromaWidth (c .before .before .before .before .before .before .before .before .before .before .before .before .before .before .before .before .before .before .before .before .before .before .before .before .before .before .before .before .before .before .args .v .width)) (c .before .before .before .before .before .before .before .before .before .before .before .before .before .before .before .before .before .before .before .before .before .before .before .before .before .widest-of .result) (widest (c .before .before .before .before .before .before .before .before .before .before .before .before .before .before .before .before .before .before .before .before .before .before .before .before .before .before .before .before .before .before .args .v)) (c .before .before .before .before .before .before .before .before .before .before .before .before .before .before .before .before .before .before .before .before .before .before .before .chroma-count .result) (chromaCount (c .before .before .before .before .before .before .before .before .before .before .before .before .before .before .before .before .before .before .before .before .before .before .before .before .before .before .before .before .before .before .args .v)) (c .before .before .before .before .before .before .before .before .before .before .before .before .before .read-lines2 .last .1 .1 .1 .1 .1 .0) (c .before .before .before .before .before .before .before .before .before .cb .given .0 .0)
-    (l .end) (c .before .before .before .before .before .before .before .before .before .before .before .before .before .before .before .before .before .before .before .before .before .before .before .before .before .widest-of .ensures) (c .before .before .before .before .before .before .before .before .before .before .before .before .before .before .before .before .before .before .before .before .before .before .before .chroma-count .ensures)
-    (lined (c .before .before .before .before .before .before .before .before .before .before .before .before .before .before .before .before .before .before .before .before .before .before .before .before .before .before .before .before .before .before .args .s .now) (c .before .before .before .before .before .before .before .before .before .before .before .before .before .before .before .before .luma .given .0 .0) (chromaWidth (c .before .before .before .before .before .before .before .before .before .before .before .before .before .before .before .before .before .before .before .before .before .before .before .before .before .before .before .before .before .before .args .v .width)) (c .before .before .before .before .before .before .before .before .before .before .before .before .before .before .before .before .before .before .before .before .before .before .before .before .before .widest-of .result) (c .before .before .before .before .before .before .before .before .before .before .before .before .before .before .before .before .before .before .before .before .before .before .before .chroma-count .result) (c .before .before .before .before .before .before .before .before .before .before .before .before .before .read-lines2 .last .1 .1 .1 .1 .1 .0) (c .before .before .before .before .before .before .before .before .before .cb .given .0 .0) (c .before .before .before .before .before .before .before .before .before .before .before .before .before .read-lines2 .result)
-    (l .within) (c .before .before .before .before .before .before .before .before .before .before .before .before .before .read-lines2 .ensures .0) (c .before .before .before .before .before .before .before .before .before .before .before .before .before .read-lines2 .ensures .1) (c .before .before .before .before .before .before .before .before .before .cb .given .1)) in
-    let n = lined-same (c .before .before .before .before .before .before .before .before .before .before .before .before .before .before .before .before .before .before .before .before .before .before .before .before .before .before .before .before .before .before .args .s .now) (c .before .before .before .before .before .before .before .before .before .cb .given .0 .0) (vBegin (c .before .before .before .before .before .before .before .before .before .before .before .before .before .before .before .before .before .before .before .before .before .before .before .before .before .before .before .before .before .before .args .s .now) (c .before .before .before .before .before .before .before .before .before .before .before .before .before .before .before .before .before .before .before .before .before .before .before .before .before .before .before .before .before .before .args .v)) (chromaWidth (c .before .before .before .before .before .before .before .before .before .before .before .before .before .before .before .before .before .before .before .before .before .before .before .before .before .before .before .before .before .before .args .v .width)) (c .before .before .before .before .before .before .before .before .before .before .before .before .before .before .before .before .before .before .before .before .before .before .before .before .before .widest-of .result) (widest (c .before .before .before .before .before .before .before .before .before .before .before .before .before .before .before .before .before .before .before .before .before .before .before .before .before .before .before .before .before .before .args .v)) (c .before .before .before .before .before .before .before .before .before .before .before .before .before .before .before .before .before .before .before .before .before .before .before .chroma-count .result) (chromaCount (c .before .before .before .before .before .before .before .before .before .before .before .before .before .before .before .before .before .before .before .before .before .before .before .before .before .before .before .before .before .before .args .v)) (c .before .before .before .before .before .before .read-lines3 .last .1 .1 .1 .1 .1 .0) (c .before .before .cr .given .0 .0)
-    (m .end) (c .before .before .before .before .before .before .before .before .before .before .before .before .before .before .before .before .before .before .before .before .before .before .before .before .before .widest-of .ensures) (c .before .before .before .before .before .before .before .before .before .before .before .before .before .before .before .before .before .before .before .before .before .before .before .chroma-count .ensures)
-    (lined (c .before .before .before .before .before .before .before .before .before .before .before .before .before .before .before .before .before .before .before .before .before .before .before .before .before .before .before .before .before .before .args .s .now) (c .before .before .before .before .before .before .before .before .before .cb .given .0 .0) (chromaWidth (c .before .before .before .before .before .before .before .before .before .before .before .before .before .before .before .before .before .before .before .before .before .before .before .before .before .before .before .before .before .before .args .v .width)) (c .before .before .before .before .before .before .before .before .before .before .before .before .before .before .before .before .before .before .before .before .before .before .before .before .before .widest-of .result) (c .before .before .before .before .before .before .before .before .before .before .before .before .before .before .before .before .before .before .before .before .before .before .before .chroma-count .result) (c .before .before .before .before .before .before .read-lines3 .last .1 .1 .1 .1 .1 .0) (c .before .before .cr .given .0 .0) (c .before .before .before .before .before .before .read-lines3 .result)
-    (m .within) (c .before .before .before .before .before .before .read-lines3 .ensures .0) (c .before .before .before .before .before .before .read-lines3 .ensures .1) (c .before .before .cr .given .1)) in
-    planes-whole (c .before .before .before .before .before .before .before .before .before .before .before .before .before .before .before .before .before .before .before .before .before .before .before .before .before .before .before .before .before .before .args .s .now) (c .before .before .before .before .before .before .before .before .before .before .before .before .before .before .before .before .before .before .before .before .before .before .before .before .before .before .before .before .before .before .args .v) _ _ _ (c .before .before .before .before .before .before .before .before .before .before .before .before .before .before .before .before .luma .given .0 .0) (c .before .before .before .before .before .before .before .before .before .cb .given .0 .0) (c .before .before .cr .given .0 .0) l m n (c .if1 .taken)
+returns-4 c = planes-whole (luma-read (c .before .before .before .before .before .before .before .before .before .before .before .before .before .before .before .before)) (cb-read (c .before .before .before .before .before .before .before .before .before)) (cr-read (c .before .before)) (c .if1 .taken)
 
 same-length-10 : tie.Need-same-length-10
 same-length-10 c = search needs
@@ -145,20 +118,7 @@ same-length-12 : tie.Need-same-length-12
 same-length-12 c = search needs
 
 returns-5 : tie.Need-returns-5
-returns-5 c =
-    let l = lined-same (c .before .before .before .before .before .before .before .before .before .before .before .before .before .before .before .before .before .before .before .before .before .before .before .before .before .before .before .before .before .before .args .s .now) (c .before .before .before .before .before .before .before .before .before .before .before .before .before .before .before .before .before .before .before .before .before .before .before .before .before .before .before .before .before .before .args .at) (lumaBegin (c .before .before .before .before .before .before .before .before .before .before .before .before .before .before .before .before .before .before .before .before .before .before .before .before .before .before .before .before .before .before .args .s .now)) (c .before .before .before .before .before .before .before .before .before .before .before .before .before .before .before .before .before .before .before .before .before .before .before .before .before .before .before .before .before .before .args .v .width) (c .before .before .before .before .before .before .before .before .before .before .before .before .before .before .before .before .before .before .before .before .before .before .before .before .before .widest-of .result) (widest (c .before .before .before .before .before .before .before .before .before .before .before .before .before .before .before .before .before .before .before .before .before .before .before .before .before .before .before .before .before .before .args .v)) (c .before .before .before .before .before .before .before .before .before .before .before .before .before .before .before .before .before .before .before .before .before .before .before .before .luma-count .result) (lumaCount (c .before .before .before .before .before .before .before .before .before .before .before .before .before .before .before .before .before .before .before .before .before .before .before .before .before .before .before .before .before .before .args .v)) (c .before .before .before .before .before .before .before .before .before .before .before .before .before .before .before .before .before .before .before .before .read-lines .last .1 .1 .1 .1 .1 .0) (c .before .before .before .before .before .before .before .before .before .before .before .before .before .before .before .before .luma .given .0 .0)
-    (c .before .before .before .before .before .before .before .before .before .before .before .before .before .before .before .before .before .before .before .before .before .before .before .before .before .before .before .before .before .before .pre .after .place) (c .before .before .before .before .before .before .before .before .before .before .before .before .before .before .before .before .before .before .before .before .before .before .before .before .before .widest-of .ensures) (c .before .before .before .before .before .before .before .before .before .before .before .before .before .before .before .before .before .before .before .before .before .before .before .before .luma-count .ensures)
-    (lined (c .before .before .before .before .before .before .before .before .before .before .before .before .before .before .before .before .before .before .before .before .before .before .before .before .before .before .before .before .before .before .args .s .now) (c .before .before .before .before .before .before .before .before .before .before .before .before .before .before .before .before .before .before .before .before .before .before .before .before .before .before .before .before .before .before .args .at) (c .before .before .before .before .before .before .before .before .before .before .before .before .before .before .before .before .before .before .before .before .before .before .before .before .before .before .before .before .before .before .args .v .width) (c .before .before .before .before .before .before .before .before .before .before .before .before .before .before .before .before .before .before .before .before .before .before .before .before .before .widest-of .result) (c .before .before .before .before .before .before .before .before .before .before .before .before .before .before .before .before .before .before .before .before .before .before .before .before .luma-count .result) (c .before .before .before .before .before .before .before .before .before .before .before .before .before .before .before .before .before .before .before .before .read-lines .last .1 .1 .1 .1 .1 .0) (c .before .before .before .before .before .before .before .before .before .before .before .before .before .before .before .before .luma .given .0 .0) (c .before .before .before .before .before .before .before .before .before .before .before .before .before .before .before .before .before .before .before .before .read-lines .result)
-    (c .before .before .before .before .before .before .before .before .before .before .before .before .before .before .before .before .before .before .before .before .before .before .before .before .before .before .before .before .before .before .pre .after .within) (c .before .before .before .before .before .before .before .before .before .before .before .before .before .before .before .before .before .before .before .before .read-lines .ensures .0) (c .before .before .before .before .before .before .before .before .before .before .before .before .before .before .before .before .before .before .before .before .read-lines .ensures .1) (c .before .before .before .before .before .before .before .before .before .before .before .before .before .before .before .before .luma .given .1)) in
-    let m = lined-same (c .before .before .before .before .before .before .before .before .before .before .before .before .before .before .before .before .before .before .before .before .before .before .before .before .before .before .before .before .before .before .args .s .now) (c .before .before .before .before .before .before .before .before .before .before .before .before .before .before .before .before .luma .given .0 .0) (uBegin (c .before .before .before .before .before .before .before .before .before .before .before .before .before .before .before .before .before .before .before .before .before .before .before .before .before .before .before .before .before .before .args .s .now) (c .before .before .before .before .before .before .before .before .before .before .before .before .before .before .before .before .before .before .before .before .before .before .before .before .before .before .before .before .before .before .args .v)) (chromaWidth (c .before .before .before .before .before .before .before .before .before .before .before .before .before .before .before .before .before .before .before .before .before .before .before .before .before .before .before .before .before .before .args .v .width)) (c .before .before .before .before .before .before .before .before .before .before .before .before .before .before .before .before .before .before .before .before .before .before .before .before .before .widest-of .result) (widest (c .before .before .before .before .before .before .before .before .before .before .before .before .before .before .before .before .before .before .before .before .before .before .before .before .before .before .before .before .before .before .args .v)) (c .before .before .before .before .before .before .before .before .before .before .before .before .before .before .before .before .before .before .before .before .before .before .before .chroma-count .result) (chromaCount (c .before .before .before .before .before .before .before .before .before .before .before .before .before .before .before .before .before .before .before .before .before .before .before .before .before .before .before .before .before .before .args .v)) (c .before .before .before .before .before .before .before .before .before .before .before .before .before .read-lines2 .last .1 .1 .1 .1 .1 .0) (c .before .before .before .before .before .before .before .before .before .cb .given .0 .0)
-    (l .end) (c .before .before .before .before .before .before .before .before .before .before .before .before .before .before .before .before .before .before .before .before .before .before .before .before .before .widest-of .ensures) (c .before .before .before .before .before .before .before .before .before .before .before .before .before .before .before .before .before .before .before .before .before .before .before .chroma-count .ensures)
-    (lined (c .before .before .before .before .before .before .before .before .before .before .before .before .before .before .before .before .before .before .before .before .before .before .before .before .before .before .before .before .before .before .args .s .now) (c .before .before .before .before .before .before .before .before .before .before .before .before .before .before .before .before .luma .given .0 .0) (chromaWidth (c .before .before .before .before .before .before .before .before .before .before .before .before .before .before .before .before .before .before .before .before .before .before .before .before .before .before .before .before .before .before .args .v .width)) (c .before .before .before .before .before .before .before .before .before .before .before .before .before .before .before .before .before .before .before .before .before .before .before .before .before .widest-of .result) (c .before .before .before .before .before .before .before .before .before .before .before .before .before .before .before .before .before .before .before .before .before .before .before .chroma-count .result) (c .before .before .before .before .before .before .before .before .before .before .before .before .before .read-lines2 .last .1 .1 .1 .1 .1 .0) (c .before .before .before .before .before .before .before .before .before .cb .given .0 .0) (c .before .before .before .before .before .before .before .before .before .before .before .before .before .read-lines2 .result)
-    (l .within) (c .before .before .before .before .before .before .before .before .before .before .before .before .before .read-lines2 .ensures .0) (c .before .before .before .before .before .before .before .before .before .before .before .before .before .read-lines2 .ensures .1) (c .before .before .before .before .before .before .before .before .before .cb .given .1)) in
-    let n = lined-same (c .before .before .before .before .before .before .before .before .before .before .before .before .before .before .before .before .before .before .before .before .before .before .before .before .before .before .before .before .before .before .args .s .now) (c .before .before .before .before .before .before .before .before .before .cb .given .0 .0) (vBegin (c .before .before .before .before .before .before .before .before .before .before .before .before .before .before .before .before .before .before .before .before .before .before .before .before .before .before .before .before .before .before .args .s .now) (c .before .before .before .before .before .before .before .before .before .before .before .before .before .before .before .before .before .before .before .before .before .before .before .before .before .before .before .before .before .before .args .v)) (chromaWidth (c .before .before .before .before .before .before .before .before .before .before .before .before .before .before .before .before .before .before .before .before .before .before .before .before .before .before .before .before .before .before .args .v .width)) (c .before .before .before .before .before .before .before .before .before .before .before .before .before .before .before .before .before .before .before .before .before .before .before .before .before .widest-of .result) (widest (c .before .before .before .before .before .before .before .before .before .before .before .before .before .before .before .before .before .before .before .before .before .before .before .before .before .before .before .before .before .before .args .v)) (c .before .before .before .before .before .before .before .before .before .before .before .before .before .before .before .before .before .before .before .before .before .before .before .chroma-count .result) (chromaCount (c .before .before .before .before .before .before .before .before .before .before .before .before .before .before .before .before .before .before .before .before .before .before .before .before .before .before .before .before .before .before .args .v)) (c .before .before .before .before .before .before .read-lines3 .last .1 .1 .1 .1 .1 .0) (c .before .before .cr .given .0 .0)
-    (m .end) (c .before .before .before .before .before .before .before .before .before .before .before .before .before .before .before .before .before .before .before .before .before .before .before .before .before .widest-of .ensures) (c .before .before .before .before .before .before .before .before .before .before .before .before .before .before .before .before .before .before .before .before .before .before .before .chroma-count .ensures)
-    (lined (c .before .before .before .before .before .before .before .before .before .before .before .before .before .before .before .before .before .before .before .before .before .before .before .before .before .before .before .before .before .before .args .s .now) (c .before .before .before .before .before .before .before .before .before .cb .given .0 .0) (chromaWidth (c .before .before .before .before .before .before .before .before .before .before .before .before .before .before .before .before .before .before .before .before .before .before .before .before .before .before .before .before .before .before .args .v .width)) (c .before .before .before .before .before .before .before .before .before .before .before .before .before .before .before .before .before .before .before .before .before .before .before .before .before .widest-of .result) (c .before .before .before .before .before .before .before .before .before .before .before .before .before .before .before .before .before .before .before .before .before .before .before .chroma-count .result) (c .before .before .before .before .before .before .read-lines3 .last .1 .1 .1 .1 .1 .0) (c .before .before .cr .given .0 .0) (c .before .before .before .before .before .before .read-lines3 .result)
-    (m .within) (c .before .before .before .before .before .before .read-lines3 .ensures .0) (c .before .before .before .before .before .before .read-lines3 .ensures .1) (c .before .before .cr .given .1)) in
-    planes-over (c .before .before .before .before .before .before .before .before .before .before .before .before .before .before .before .before .before .before .before .before .before .before .before .before .before .before .before .before .before .before .args .s .now) (c .before .before .before .before .before .before .before .before .before .before .before .before .before .before .before .before .before .before .before .before .before .before .before .before .before .before .before .before .before .before .args .v) _ _ _ (c .before .before .before .before .before .before .before .before .before .before .before .before .before .before .before .before .luma .given .0 .0) (c .before .before .before .before .before .before .before .before .before .cb .given .0 .0) (c .before .before .cr .given .0 .0) l m n (c .if1 .left)
+returns-5 c = planes-over (luma-read (c .before .before .before .before .before .before .before .before .before .before .before .before .before .before .before .before)) (cb-read (c .before .before .before .before .before .before .before .before .before)) (cr-read (c .before .before)) (c .if1 .left)
 
 pub read-planes-spec : {M : Type 1} → statement M
 read-planes-spec =

@@ -1,4 +1,4 @@
--- `sheet_text::red_place` meets its contract.
+-- `sheet_text::red_place` meets its contract: red is the first letter or the third, by the order.
 -- Assumes nothing.
 use Rattle.yuv_support.specs.Picture.{placeIn}
 use borrow.Author.Needs.{needs}

@@ -1,4 +1,4 @@
--- `sheet_text::widen8` meets its contract.
+-- `sheet_text::widen8` meets its contract: the first n bytes are copied as u16, one more at each turn of the loop (`Copied`).
 -- Assumes nothing.
 use Rattle.sheet_text.proofs.Copy.{Copied, copied-none, copied-one, copied-all}
 use Prim.Native.Nat.{_-_}
@@ -13,7 +13,7 @@ abbrev μ-loop : tie.MeasureT-loop
 μ-loop bytes n rgb₀ i₀ rgb i = n - i
 
 loop-holds : tie.Need-loop-holds Inv-loop μ-loop
-loop-holds c = copied-none (c .args .bytes .now) (c .args .rgb .now) (c .args .n)
+loop-holds c = copied-none
 
 shared-slice-read-rgb : tie.Need-shared-slice-read-rgb Inv-loop μ-loop
 shared-slice-read-rgb c = omega arith
@@ -22,10 +22,10 @@ cast-rgb : tie.Need-cast-rgb Inv-loop μ-loop
 cast-rgb c = omega (arith, c .shared-slice-known .given (c .before .before .loop .i))
 
 mul-rgb : tie.Need-mul-rgb Inv-loop μ-loop
-mul-rgb c = omega (arith, c .before .before .loop .inv .kept)
+mul-rgb c = omega arith
 
 slice-write-rgb : tie.Need-slice-write-rgb Inv-loop μ-loop
-slice-write-rgb c = omega (arith, c .before .before .loop .inv .kept)
+slice-write-rgb c = omega arith
 
 add-i : tie.Need-add-i Inv-loop μ-loop
 add-i c = omega arith
@@ -34,13 +34,13 @@ loop-less : tie.Need-loop-less Inv-loop μ-loop
 loop-less c = omega arith
 
 loop-again : tie.Need-loop-again Inv-loop μ-loop
-loop-again c = copied-one (c .before .before .before .args .bytes .now) (c .before .before .before .args .rgb .now) (c .before .before .before .args .n) (c .before .before .loop .rgb) (c .before .before .loop .i) (c .before .before .loop .inv) (c .before .loop-test .taken) (c .before .before .before .pre .0) (c .before .before .before .pre .1)
+loop-again c = copied-one (c .before .before .loop .inv) (c .before .loop-test .taken) (c .before .before .before .pre .0) (c .before .before .before .pre .1)
 
 same-length : tie.Need-same-length Inv-loop μ-loop
 same-length c = c .before .loop .inv .kept
 
 returns : tie.Need-returns Inv-loop μ-loop
-returns c = copied-all (c .before .before .args .bytes .now) (c .before .before .args .rgb .now) (c .before .before .args .n) (c .before .loop .inv) (c .loop-test .left)
+returns c = copied-all (c .before .loop .inv) (c .loop-test .left)
 
 pub widen8-spec : {M : Type 1} → statement M
 widen8-spec =
