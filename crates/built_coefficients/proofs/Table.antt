@@ -1,7 +1,7 @@
 -- A rule of a table, tested once over all entries and carried to each.
 -- Assumes nothing.
-use mathlib.Core.Path.{_≡_, _∙_, subst, sym}
-use mathlib.Core.Bool.{Bool, true, false, _&&_}
+use mathlib.Core.Path.{_∙_, subst, sym}
+use mathlib.Core.Bool.{Bool, true, _&&_}
 use mathlib.Core.List.{List, [], _∷_}
 use Prim.Native.Nat.{ℕ, zero, suc, _+_, _<_}
 use native.Mathlib.Nat.{add-zero, zero-add, add-suc, suc-add, le-of-suc-le-suc, not-suc-le-zero}

@@ -1,7 +1,7 @@
 -- The stored row of a setting, and which setting each row of the table belongs to.
 -- Definitions only.
 use Prim.Native.Nat.{ℕ, _-_, _/_, _%_}
-use mathlib.Core.Bool.{Bool, true, false, cond}
+use mathlib.Core.Bool.{cond}
 use lib.Dec.{T, ltb}
 use lib.Ieee.{nan}
 use Rattle.yuv_support.specs.declared.YuvRange.{YuvRange}

@@ -1,8 +1,6 @@
--- The chroma rows that a luma row blends, and a row of a plane as a part of it.
+-- The chroma rows that a luma row blends.
 -- Definitions only.
 use Prim.Native.Nat.{ℕ}
-use mathlib.Core.List.{List}
-use lib.ListN.{take, drop}
 use Rattle.yuv_support.specs.declared.YuvChromaSubsampling.{YuvChromaSubsampling}
 use Rattle.yuv_support.specs.Blend.{Rows, one, two, rowsOf, nearRow, farRow, chromaWidth}
 use Rattle.images.specs.declared.ChromaRows.{ChromaRows}
@@ -17,7 +15,3 @@ otherRow s height row = secondOf (rowsOf s height row) (nearRow s height row) (f
 
 abbrev pub chromaRows : YuvChromaSubsampling → ℕ → ℕ → ℕ → ChromaRows
 chromaRows s width height row = record { near = nearRow s height row; other = otherRow s height row; columns = chromaWidth width }
-
--- n elements from place `start` on
-abbrev pub part : List ℕ → ℕ → ℕ → List ℕ
-part xs start n = take n (drop start xs)

@@ -10,9 +10,9 @@ ghost use Rattle.yuv_support.specs.Settings.{among, depths};
 ghost use Rattle.yuv_support.specs.Coefficients.{usable};
 ghost use Rattle.yuv_support.specs.Blend.{chromaWidth, chromaHeight, nextRow, nearRow};
 ghost use Rattle.yuv_support.specs.Picture.{channelsOf};
-ghost use Rattle.yuv_support.specs.Questions.{verdict, ask, extent, samplingKnown, codesKnown, chromaPlanes, rowBelow, questionsOf, rowQuestions, chromaRowQuestions};
+ghost use Rattle.yuv_support.specs.Questions.{verdict, ask, extent, samplingKnown, codesKnown, chromaPlanes, rowBelow, partOf, questionsOf, rowQuestions, chromaRowQuestions};
 ghost use Rattle.yuv_error.specs.Told.{told};
-ghost use Rattle.images.specs.Rows.{otherRow, chromaRows, part};
+ghost use Rattle.images.specs.Rows.{otherRow, chromaRows};
 ghost use Rattle.images.specs.Request.{requestOf, constraints};
 use yuv_error::YuvError;
 use yuv_support::Codes;
@@ -113,7 +113,7 @@ pub fn chroma_rows(sampling: YuvChromaSubsampling, width: u32, height: u32, row:
 // The first n elements of a row of a plane.
 pub fn row8<'a>(plane: &'a [u8], stride: u32, row: u32, n: u32) -> &'a [u8]
     requires { ⌜ stride * row + n ≤ length (now plane) ⌝ }
-    ensures { λ r. ⌜ now r ≡ part (now (plane .entry)) (stride * row) n ⌝ }
+    ensures { λ r. ⌜ now r ≡ partOf stride row n (now (plane .entry)) ⌝ }
 {
     let start = stride as usize * row as usize;
     let end = start + n as usize;
@@ -123,7 +123,7 @@ pub fn row8<'a>(plane: &'a [u8], stride: u32, row: u32, n: u32) -> &'a [u8]
 // `row8` at u16.
 pub fn row16<'a>(plane: &'a [u16], stride: u32, row: u32, n: u32) -> &'a [u16]
     requires { ⌜ stride * row + n ≤ length (now plane) ⌝ }
-    ensures { λ r. ⌜ now r ≡ part (now (plane .entry)) (stride * row) n ⌝ }
+    ensures { λ r. ⌜ now r ≡ partOf stride row n (now (plane .entry)) ⌝ }
 {
     let start = stride as usize * row as usize;
     let end = start + n as usize;

@@ -6,17 +6,16 @@ use mathlib.Core.Bool.{Bool, true, false}
 use mathlib.Core.List.{List}
 use Prim.Native.Nat.{ℕ, _+_, _-_, _*_, _/_, _≤_, _<_}
 use native.Mathlib.Omega.{arith}
-use lib.ListN.{length, getD, drop, length-drop}
-use lib.Seq.{getD-take, getD-drop, length-take-le}
+use lib.ListN.{length, getD}
 use Rattle.yuv_support.specs.declared.Settings.{Settings}
 use Rattle.yuv_support.specs.Coefficients.{coefficientsOf}
 use Rattle.yuv_support.specs.Blend.{Frame, Chroma, Cb, Cr, Rows, one, two, Place, left, right, tail, sixteenths, rowsOf, placeOf, nearRow, farRow, chromaWidth, chromaHeight, chromaSample, chroma16, rounded}
 use Rattle.yuv_support.specs.Picture.{channelsOf, rowOf, elementOf}
-use Rattle.yuv_support.specs.Questions.{needed}
+use Rattle.yuv_support.specs.Questions.{needed, partOf}
 use Rattle.yuv_support.proofs.Depths.{by-depth}
-use Rattle.yuv_support.proofs.Rows.{row-fits}
+use Rattle.yuv_support.proofs.Rows.{row-fits, part-length, part-at}
 use Rattle.images.specs.declared.ChromaRows.{ChromaRows}
-use Rattle.images.specs.Rows.{secondOf, otherRow, chromaRows, part}
+use Rattle.images.specs.Rows.{secondOf, otherRow, chromaRows}
 use Rattle.images.proofs.Rows.{near-row-below, other-row-below}
 use Rattle.numerics.specs.declared.Kernel.{Kernel}
 use Rattle.numerics.specs.Kernel.{Bytes, Words}
@@ -24,13 +23,6 @@ use Rattle.numerics.specs.Row.{at}
 use Rattle.kernel.specs.Kernels.{redFirst, offsetOf, mostOf, tailOf, arranged, kernelOf}
 use Rattle.kernel.specs.Ordered.{pick, lastOf, orderedValue, OrderedFits, Ready}
 use Rattle.kernel.proofs.Rows.{row-is}
-
--- a part of a buffer, if it lies inside: how long it is, and element i of it
-part-length : (xs : List ℕ) (start n : ℕ) → start + n ≤ length xs → length (part xs start n) ≡ n
-part-length xs start n h = length-take-le n (drop start xs) (simp length-drop (omega arith))
-
-pub part-at : (xs : List ℕ) (start n i : ℕ) → i < n → getD (part xs start n) i 0 ≡ getD xs (start + i) 0
-part-at xs start n i h = getD-take n (drop start xs) i 0 h ∙ getD-drop start xs i 0
 
 -- one chroma row has the weights of two equal ones
 one-as-two : (ch : Chroma) (place : Place) (a b c e : ℕ) → sixteenths ch one place a b c e ≡ sixteenths ch two place a b a b
@@ -76,11 +68,11 @@ pub record PartsIn (f : Frame) (row : ℕ) (p : ChromaRows) : Type 0 where
 
 -- the parts themselves
 pub record Parts (f : Frame) (row : ℕ) (p : ChromaRows) (y un uf vn vf : List ℕ) : Type 0 where
-  pub y-is : y ≡ part (f .y) (f .y-stride * row) (f .width)
-  pub u-near : un ≡ part (f .u) (f .u-stride * p .near) (p .columns)
-  pub u-other : uf ≡ part (f .u) (f .u-stride * p .other) (p .columns)
-  pub v-near : vn ≡ part (f .v) (f .v-stride * p .near) (p .columns)
-  pub v-other : vf ≡ part (f .v) (f .v-stride * p .other) (p .columns)
+  pub y-is : y ≡ partOf (f .y-stride) row (f .width) (f .y)
+  pub u-near : un ≡ partOf (f .u-stride) (p .near) (p .columns) (f .u)
+  pub u-other : uf ≡ partOf (f .u-stride) (p .other) (p .columns) (f .u)
+  pub v-near : vn ≡ partOf (f .v-stride) (p .near) (p .columns) (f .v)
+  pub v-other : vf ≡ partOf (f .v-stride) (p .other) (p .columns) (f .v)
 
 -- of the chroma rows p that the code finds
 module _ {s : Settings} {f : Frame} {k : Kernel} (ready : Ready s f k) (row : ℕ) {p : ChromaRows} (inside : row < f .height)
@@ -111,15 +103,15 @@ module _ {s : Settings} {f : Frame} {k : Kernel} (ready : Ready s f k) (row : �
       some = ready .width-least;
       wide = ready .width-most;
       places = l;
-      luma = rw (parts .y-is) (as-long (f .y) (f .y-stride * row) (f .width) (parts-in .y) refl);
-      u-near = rw (parts .u-near) (as-long (f .u) (f .u-stride * p .near) (p .columns) (parts-in .u-near) columns-are);
-      u-far = rw (parts .u-other) (as-long (f .u) (f .u-stride * p .other) (p .columns) (parts-in .u-other) columns-are);
-      v-near = rw (parts .v-near) (as-long (f .v) (f .v-stride * p .near) (p .columns) (parts-in .v-near) columns-are);
-      v-far = rw (parts .v-other) (as-long (f .v) (f .v-stride * p .other) (p .columns) (parts-in .v-other) columns-are);
+      luma = rw (parts .y-is) (as-long (f .y-stride) row (f .width) (f .y) (parts-in .y) refl);
+      u-near = rw (parts .u-near) (as-long (f .u-stride) (p .near) (p .columns) (f .u) (parts-in .u-near) columns-are);
+      u-far = rw (parts .u-other) (as-long (f .u-stride) (p .other) (p .columns) (f .u) (parts-in .u-other) columns-are);
+      v-near = rw (parts .v-near) (as-long (f .v-stride) (p .near) (p .columns) (f .v) (parts-in .v-near) columns-are);
+      v-far = rw (parts .v-other) (as-long (f .v-stride) (p .other) (p .columns) (f .v) (parts-in .v-other) columns-are);
     }
       where
-        as-long : (plane : List ℕ) (start n : ℕ) {m : ℕ} → start + n ≤ length plane → n ≡ m → m ≤ length (part plane start n)
-        as-long plane start n h e = omega (arith, part-length plane start n h)
+        as-long : (stride r n : ℕ) (plane : List ℕ) {m : ℕ} → stride * r + n ≤ length plane → n ≡ m → m ≤ length (partOf stride r n plane)
+        as-long stride r n plane h e = omega (arith, part-length stride r n plane h)
 
     -- the row that the row functions make of the parts is the row of the definition
     pub row-of-parts : ((i : ℕ) → getD (f .u) i 0 ≤ mostOf (s .depth)) → ((i : ℕ) → getD (f .v) i 0 ≤ mostOf (s .depth))
@@ -148,20 +140,20 @@ module _ {s : Settings} {f : Frame} {k : Kernel} (ready : Ready s f k) (row : �
         lasts ch = lastOf (f .width) ch (nears ch) (fars ch)
 
         luma-at : (i : ℕ) → i < f .width → at y i ≡ getD (f .y) (f .y-stride * row + i) 0
-        luma-at i h = rw (parts .y-is) (part-at (f .y) (f .y-stride * row) (f .width) i h)
+        luma-at i h = rw (parts .y-is) (part-at (f .y-stride) row (f .width) (f .y) i h)
 
         -- sample i of a part of a chroma plane
-        sample-at : {part-of : List ℕ} (plane : List ℕ) (start : ℕ) → part-of ≡ part plane start (p .columns) → (i : ℕ) → i < chromaWidth (f .width)
-            → at part-of i ≡ getD plane (start + i) 0
-        sample-at plane start e i h = rw e (part-at plane start (p .columns) i (rw columns-are h))
+        sample-at : {part : List ℕ} (stride r : ℕ) (plane : List ℕ) → part ≡ partOf stride r (p .columns) plane → (i : ℕ) → i < chromaWidth (f .width)
+            → at part i ≡ getD plane (stride * r + i) 0
+        sample-at stride r plane e i h = rw e (part-at stride r (p .columns) plane i (rw columns-are h))
 
         near-at : (ch : Chroma) (i : ℕ) → i < chromaWidth (f .width) → at (nears ch) i ≡ chromaSample s f ch (p .near) i
-        near-at Cb = sample-at (f .u) (f .u-stride * p .near) (parts .u-near)
-        near-at Cr = sample-at (f .v) (f .v-stride * p .near) (parts .v-near)
+        near-at Cb = sample-at (f .u-stride) (p .near) (f .u) (parts .u-near)
+        near-at Cr = sample-at (f .v-stride) (p .near) (f .v) (parts .v-near)
 
         far-at : (ch : Chroma) (i : ℕ) → i < chromaWidth (f .width) → at (fars ch) i ≡ chromaSample s f ch (p .other) i
-        far-at Cb = sample-at (f .u) (f .u-stride * p .other) (parts .u-other)
-        far-at Cr = sample-at (f .v) (f .v-stride * p .other) (parts .v-other)
+        far-at Cb = sample-at (f .u-stride) (p .other) (f .u) (parts .u-other)
+        far-at Cr = sample-at (f .v-stride) (p .other) (f .v) (parts .v-other)
 
         last-at : (ch : Chroma) → lasts ch ≡ rounded (tailOf ch (chromaSample s f ch (p .near) (chromaWidth (f .width) - 1)) (chromaSample s f ch (p .other) (chromaWidth (f .width) - 1)))
         last-at ch =

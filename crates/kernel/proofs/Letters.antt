@@ -2,12 +2,11 @@
 -- and the truncated difference of natural numbers is the lower clamp.
 -- Assumes nothing.
 use mathlib.Core.Path.{_≡_, refl, sym, ap, _∙_}
-use mathlib.Core.Bool.{Bool, true, false, cond}
-use mathlib.Core.List.{List}
+use mathlib.Core.Bool.{Bool, true, false}
 use Prim.Native.Nat.{ℕ, zero, suc, _+_, _-_, _*_, _/_, _≤_, _<_, min}
 use native.Mathlib.Nat.{mul-le-mul-left}
 use native.Mathlib.Omega.{arith}
-use lib.Dec.{T, eqb}
+use lib.Dec.{T}
 use lib.ListN.{getD}
 use Rattle.yuv_support.specs.declared.YuvRange.{YuvRange}
 use Rattle.yuv_support.specs.declared.YuvSourceChannels.{YuvSourceChannels}
@@ -16,14 +15,14 @@ use Rattle.yuv_support.specs.declared.CbCrInverseTransform.{CbCrInverseTransfor
 use Rattle.yuv_support.specs.declared.Settings.{Settings}
 use Rattle.yuv_support.specs.Settings.{among, depths, maxOf, biasY, biasC}
 use Rattle.yuv_support.specs.Coefficients.{coefficientsOf, usable}
-use Rattle.yuv_support.specs.Blend.{Frame, Chroma, Cb, Cr, lumaAt, chroma16, rounded}
+use Rattle.yuv_support.specs.Blend.{Frame, Cb, Cr, lumaAt, chroma16, rounded}
 use Rattle.yuv_support.specs.Component.{Component, R, G, B, sumOf, quotient, clamp, quotientOf, quotientAt, componentAt}
-use Rattle.yuv_support.specs.Picture.{colour, alpha, lettersOf, channelsOf, valueOf}
+use Rattle.yuv_support.specs.Picture.{alpha, lettersOf, channelsOf, valueOf}
 use Rattle.yuv_support.proofs.Sign.{red-sum, green-sum, blue-sum}
 use Rattle.inverse_transform.specs.Narrow.{Narrow}
 use Rattle.inverse_transform.proofs.Narrow.{narrow}
 use Rattle.numerics.specs.declared.Kernel.{Kernel}
-use Rattle.numerics.specs.Kernel.{outerOf, innerOf, firstOf, greenOf, thirdOf, letterOf}
+use Rattle.numerics.specs.Kernel.{firstOf, greenOf, thirdOf, letterOf}
 use Rattle.kernel.specs.Kernels.{redFirst, offsetOf, mostOf, firstChroma, thirdChroma, arranged, kernelOf}
 use Rattle.kernel.proofs.Room.{Room, room}
 

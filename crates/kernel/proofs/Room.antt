@@ -1,18 +1,15 @@
 -- The sums of a kernel have room: shown at each depth and range, where the biases and the offset are numbers.
 -- Assumes nothing.
-use mathlib.Core.Path.{_≡_}
-use mathlib.Core.Bool.{Bool, true, false}
 use Prim.Native.Nat.{ℕ, _+_, _-_, _*_, _≤_}
 use native.Mathlib.Omega.{arith}
 use lib.Dec.{T}
 use Rattle.yuv_support.specs.declared.YuvRange.{YuvRange}
 use Rattle.yuv_support.specs.declared.YuvRange.the-variants.{Limited, Full}
-use Rattle.yuv_support.specs.declared.CbCrInverseTransform.{CbCrInverseTransform}
-use Rattle.yuv_support.specs.Settings.{among, depths, maxOf, biasY, biasC}
+use Rattle.yuv_support.specs.Settings.{among, depths, biasY, biasC}
 use Rattle.yuv_support.proofs.Depths.{by-depth}
 use Rattle.inverse_transform.specs.Narrow.{Narrow}
 use Rattle.numerics.specs.Kernel.{Roomy}
-use Rattle.kernel.specs.Kernels.{offsetOf, mostOf, lettered, arranged}
+use Rattle.kernel.specs.Kernels.{offsetOf, mostOf, lettered}
 
 -- by and bc are the biases, most the largest sample
 pub record Room (by bc offset most ky kp gp gq kq : ℕ) : Type 0 where

@@ -7,14 +7,14 @@ use mathlib.Core.List.{List}
 use Prim.Native.Nat.{ℕ, _+_, _-_, _*_, _/_, _%_, _≤_, _<_}
 use native.Mathlib.Nat.{div-lt-iff-lt-mul, mod-lt}
 use native.Mathlib.Omega.{arith}
-use borrow.Author.Tests.{ltb-true, ltb-false, eqb-true}
+use borrow.Author.Tests.{ltb-true, ltb-false}
 use lib.Dec.{T, eqb, ltb}
-use lib.ListN.{length, getD}
+use lib.ListN.{length}
 use Rattle.yuv_support.specs.declared.Settings.{Settings}
 use Rattle.yuv_support.specs.Settings.{among, depths}
 use Rattle.yuv_support.specs.Coefficients.{usable}
 use Rattle.yuv_support.specs.Blend.{Frame, Chroma, Cb, Cr, two, left, right, tail, sixteenths, pairPlace, placeOf, chromaWidth, lumaAt, chromaSample, chroma16, rounded}
-use Rattle.yuv_support.specs.Picture.{channelsOf, lettersOf, alpha, elementOf, overlay, rowOf}
+use Rattle.yuv_support.specs.Picture.{channelsOf, elementOf, rowOf}
 use Rattle.yuv_support.proofs.Blend.{blend-le}
 use Rattle.yuv_support.proofs.Overlay.{overlay-length, overlay-at, is-overlay}
 use Rattle.yuv_support.proofs.Picture.{three-or-four-channels}

@@ -1,6 +1,6 @@
 -- The kernel of a setting: its coefficients in the order of the letters, with the biases folded in.
 -- Definitions only.
-use Prim.Native.Nat.{ℕ, _+_, _-_, _*_, _≤_}
+use Prim.Native.Nat.{ℕ, _+_, _-_, _*_}
 use mathlib.Core.Bool.{Bool, true, false, cond}
 use lib.Dec.{eqb}
 use Rattle.yuv_support.specs.declared.YuvRange.{YuvRange}

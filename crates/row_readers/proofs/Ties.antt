@@ -9,8 +9,7 @@ use Prim.Native.Nat.{ℕ, zero, suc, _+_, _*_, _≤_, _<_}
 use native.Mathlib.Omega.{arith}
 use borrow.Author.Tests.{le-leb, lt-ltb, eq-eqb}
 use lib.Dec.{eqb}
-use lib.ListN.{length, getD, drop, length-drop}
-use lib.Seq.{getD-take, getD-drop, length-take-le}
+use lib.ListN.{length, getD}
 use Rattle.yuv_support.specs.declared.Codes.{Codes}
 use Rattle.yuv_support.specs.declared.Settings.{Settings}
 use Rattle.yuv_support.specs.declared.YuvPlanarImage.{YuvPlanarImage}
@@ -20,17 +19,10 @@ use Rattle.yuv_support.specs.Picture.{channelsOf, elementOf, rowOf, painted, ba
 use Rattle.yuv_support.specs.Questions.{accepted, decoded, needed, partOf, rowQuestions, finishedRow, nearChromaRow}
 use Rattle.yuv_support.specs.Conversion.{requestFor, answerTo, destinationAfter}
 use Rattle.yuv_support.proofs.Overlay.{is-overlay, overlay-at}
-use Rattle.yuv_support.proofs.Rows.{cell-at, painted-length, row-fits}
+use Rattle.yuv_support.proofs.Rows.{cell-at, painted-length, row-fits, part-length, part-at}
 use Rattle.yuv_support.proofs.Picture.{band-length}
 use Rattle.yuv_support.proofs.Questions.{Accepted, accepted-facts, questionAt, all-hold-accepted}
 use Rattle.row_readers.specs.Readers.{extentOf, wanted, rowAnswer, rowPart, chromaRowAnswer, chromaRowPart}
-
-part-length : (stride row n : ℕ) (buffer : List ℕ) → stride * row + n ≤ length buffer → length (partOf stride row n buffer) ≡ n
-part-length stride row n buffer fits = length-take-le n (drop (stride * row) buffer) (simp length-drop (omega arith))
-
--- element x of the part is element stride·row + x of the buffer
-part-at : (stride row n : ℕ) (buffer : List ℕ) (x : ℕ) → x < n → getD (partOf stride row n buffer) x 0 ≡ getD buffer (stride * row + x) 0
-part-at stride row n buffer x h = getD-take n (drop (stride * row) buffer) x 0 h ∙ getD-drop (stride * row) buffer x 0
 
 -- ---- the finished row
 

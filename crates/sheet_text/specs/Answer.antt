@@ -1,7 +1,7 @@
 -- What the functions that read the rest of a sheet ask and answer, by the definitions of Sheet.
 -- Definitions only.
 use mathlib.Core.Path.{_≡_}
-use mathlib.Core.Bool.{true, cond}
+use mathlib.Core.Bool.{cond}
 use mathlib.Core.List.{List}
 use Prim.Native.Nat.{ℕ, _≤_}
 use lib.Dec.{leb}
@@ -10,21 +10,7 @@ use Rattle.yuv_support.specs.Settings.{among, depths}
 use Rattle.yuv_support.specs.Questions.{decoded, codesKnown}
 use Rattle.sheet_text.specs.declared.Values.{Values}
 use Rattle.sheet_text.specs.Numbers.{numbersFrom}
-use Rattle.sheet_text.specs.Sheet.{
-  hasNames,
-  hasValues,
-  valuesOf,
-  codesOf,
-  lumaCount,
-  chromaCount,
-  lumaBegin,
-  uBegin,
-  vBegin,
-  restFormed,
-  sheetFrame,
-  refusal,
-  table,
-}
+use Rattle.sheet_text.specs.Sheet.{codesOf, lumaCount, chromaCount, lumaBegin, uBegin, vBegin, restFormed, sheetFrame, refusal, table}
 
 -- the first two lines are read: `at` is the place after them
 pub record AfterValues (s : List ℕ) (at : ℕ) : Type 0 where

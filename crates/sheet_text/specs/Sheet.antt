@@ -14,7 +14,7 @@ use Rattle.yuv_support.specs.Blend.{Frame, frameOf, chromaWidth, chromaHeight}
 use Rattle.yuv_support.specs.Component.{R, G, B, componentAt}
 use Rattle.yuv_support.specs.Questions.{Question, ask, verdict, decoded, samplingKnown, codesKnown}
 use Rattle.sheet_text.specs.declared.Values.{Values}
-use Rattle.sheet_text.specs.Text.{joined, decimalText, numberText}
+use Rattle.sheet_text.specs.Text.{joined, numberText}
 use Rattle.sheet_text.specs.Numbers.{byteAt, numberAt, allBelow, begin, areLines, numbersFrom}
 
 -- ---- fixed lines

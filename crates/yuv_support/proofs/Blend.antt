@@ -71,9 +71,6 @@ pub blend-le : (ch : Chroma) (rows : Rows) (place : Place) (a b c e bound : ℕ)
     → rounded (sixteenths ch rows place a b c e) ≤ bound
 blend-le ch rows place a b c e bound ha hb hc he = rounded-le (sixteenths ch rows place a b c e) bound (sixteenths-le ch rows place a b c e bound ha hb hc he)
 
-pub blend-tail-le : (ch : Chroma) (rows : Rows) (a b c e bound : ℕ) → a ≤ bound → c ≤ bound → rounded (sixteenths ch rows tail a b c e) ≤ bound
-blend-tail-le ch rows a b c e bound ha hc = rounded-le (sixteenths ch rows tail a b c e) bound (sixteenths-tail-le ch rows a b c e bound ha hc)
-
 -- at a column, where the samples k + 1 are needed only if there are such
 pub placed-le : (ch : Chroma) (rows : Rows) (width column a b c e bound : ℕ) → a ≤ bound → c ≤ bound
     → (column / 2 + 1 < chromaWidth width → b ≤ bound) → (column / 2 + 1 < chromaWidth width → e ≤ bound)

@@ -2,7 +2,7 @@
 -- in the finished picture (`faithful-picture`).
 -- Assumes nothing.
 use mathlib.Core.Path.{_≡_}
-use mathlib.Core.List.{List, [], _∷_}
+use mathlib.Core.List.{List}
 use Prim.Native.Nat.{ℕ}
 use borrow.Author.Tests.{eq-eqb}
 use lib.Dec.{T}
@@ -10,7 +10,7 @@ use Rattle.yuv_support.specs.declared.Codes.{Codes}
 use Rattle.yuv_support.specs.declared.YuvPlanarImage.{YuvPlanarImage}
 use Rattle.yuv_support.specs.Settings.{among, depths, depths8, depths16}
 use Rattle.yuv_support.specs.Blend.{frameOf}
-use Rattle.yuv_support.specs.Questions.{decoded, verdict, conversionQuestions}
+use Rattle.yuv_support.specs.Questions.{decoded}
 use Rattle.yuv_support.specs.Conversion.{requestFor, answerTo, destinationAfter, Demand3}
 use Rattle.yuv_support.proofs.Depths.{each-among}
 use Rattle.yuv_support.proofs.Distance.{component-close}

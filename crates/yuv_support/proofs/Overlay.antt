@@ -4,7 +4,7 @@
 -- Assumes nothing.
 use mathlib.Core.Path.{_≡_, refl, sym, ap, _∙_}
 use mathlib.Core.Logic.{_⊎_, inl, inr}
-use mathlib.Core.Bool.{Bool, true, false, cond}
+use mathlib.Core.Bool.{Bool, true, false}
 use mathlib.Core.List.{List, [], _∷_, _++_, append-assoc}
 use Prim.Native.Nat.{ℕ, zero, suc, _+_, _-_, _≤_, _<_}
 use native.Mathlib.Nat.{not-suc-le-zero, le-of-suc-le-suc, add-zero, zero-add, suc-add, add-suc}
@@ -14,7 +14,7 @@ use borrow.Rule.Slice.PartMut.{putMid}
 use lib.Dec.{ltb}
 use lib.ListN.{length, getD, take, drop, length-append, length-drop, List·getD-append}
 use lib.Seq.{ext-getD, getD-take, getD-drop, getD-append-add, length-take-le, drop-drop, sets, sets-eq}
-use Rattle.yuv_support.specs.Picture.{overlay, upTo, rowOf}
+use Rattle.yuv_support.specs.Picture.{overlay, upTo}
 
 pub below-or-not : (a b : ℕ) → (a < b) ⊎ (b ≤ a)
 below-or-not a b = by-test (ltb a b) refl
@@ -117,11 +117,6 @@ part-back g h xs ys a k fits same out inside =
 
 pub up-none : (g : ℕ → ℕ) (xs : List ℕ) → xs ≡ overlay (upTo 0 g) 0 xs
 up-none g xs = is-overlay (upTo 0 g) xs xs refl (λ j b. rw (le-ltb j 0 (omega arith)))
-
-pub up-all : (f : ℕ → ℕ → ℕ) (row : ℕ) (xs : List ℕ) (c : ℕ) → length xs ≤ c → overlay (upTo c (f row)) 0 xs ≡ rowOf f row xs
-up-all f row xs c h =
-    is-overlay (λ x old. f row x) xs _ (overlay-length (upTo c (f row)) 0 xs)
-    (λ j b. overlay-at (upTo c (f row)) xs j b ∙ rw (lt-ltb j c (omega arith)))
 
 -- the values of a list that is written out are g 0, g 1, ..
 abbrev pub Values : (ℕ → ℕ) → List ℕ → Type 0

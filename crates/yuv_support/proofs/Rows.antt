@@ -7,13 +7,14 @@ use mathlib.Core.Logic.{_⊎_, inl, inr}
 use mathlib.Core.Bool.{and-false}
 use mathlib.Core.List.{List}
 use Prim.Native.Nat.{ℕ, _+_, _-_, _*_, _/_, _%_, _≤_, _<_}
-use native.Mathlib.Nat.{add-assoc, add-zero, div-add-mod, mul-add-div, div-eq-of-lt, mul-add-mod-self-left, mod-eq-of-lt, mul-le-mul-left}
+use native.Mathlib.Nat.{add-assoc, add-zero, add-sub-cancel-left, div-add-mod, mul-add-div, div-eq-of-lt, mul-add-mod-self-left, mod-eq-of-lt, mul-le-mul-left}
 use native.Mathlib.Omega.{arith}
 use borrow.Author.Tests.{lt-ltb, le-ltb, le-leb, lt-leb}
 use borrow.Rule.Slice.PartMut.{putMid}
 use lib.ListN.{length, getD, take, drop, length-drop, List·getD-eq-default}
-use lib.Seq.{length-take-le}
+use lib.Seq.{length-take-le, getD-take, getD-drop}
 use Rattle.yuv_support.specs.Picture.{rowOf, cell, painted}
+use Rattle.yuv_support.specs.Questions.{partOf}
 use Rattle.yuv_support.proofs.Overlay.{below-or-not, overlay-length, overlay-at, is-overlay, overlay-same, overlay-twice, part-back}
 
 -- ---- the row and the place in the row of element s·r + x
@@ -80,11 +81,16 @@ row-fits s n height r len fits h =
     let m : s * r ≤ s * (height - 1) = mul-le-mul-left s (let l : r ≤ height - 1 = omega arith in l) in
     omega arith
 
--- the part that is lent for row r has n elements
+-- a row as a part of a buffer: how long it is, and its element x
+pub part-length : (s r n : ℕ) (d : List ℕ) → s * r + n ≤ length d → length (partOf s r n d) ≡ n
+part-length s r n d h = length-take-le n (drop (s * r) d) (simp length-drop (omega arith))
+
+pub part-at : (s r n : ℕ) (d : List ℕ) (x : ℕ) → x < n → getD (partOf s r n d) x 0 ≡ getD d (s * r + x) 0
+part-at s r n d x h = getD-take n (drop (s * r) d) x 0 h ∙ getD-drop (s * r) d x 0
+
+-- its length where it is lent from one place to another
 pub row-length : (s n r : ℕ) (d : List ℕ) → s * r + n ≤ length d → length (take (s * r + n - s * r) (drop (s * r) d)) ≡ n
-row-length s n r d h =
-    let k : s * r + n - s * r ≡ n = omega arith in
-    rw k (length-take-le n (drop (s * r) d) (simp length-drop (omega arith)))
+row-length s n r d h = rw (add-sub-cancel-left (s * r) n) (part-length s r n d h)
 
 -- an element before row r, or past its first n, is outside
 beside-row : (s n r j : ℕ) → (j < s * r) ⊎ (s * r + n ≤ j) → Outside s n r 1 j

@@ -1,7 +1,7 @@
 -- Document 01, "The words of demand 3": where the pixels stand, and the whole destination after a conversion.
 -- Definitions only.
 use Prim.Native.Nat.{ℕ, suc, _+_, _*_, _/_, _%_}
-use mathlib.Core.Bool.{Bool, true, false, cond, _&&_}
+use mathlib.Core.Bool.{cond, _&&_}
 use mathlib.Core.List.{List, [], _∷_}
 use lib.Dec.{leb, ltb}
 use lib.ListN.{length, getD}

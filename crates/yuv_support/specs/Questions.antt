@@ -1,7 +1,7 @@
 -- Document 01, "Questions to every conversion": questions 1 to 14, the verdict, and the two readers.
 -- Definitions only.
 use Prim.Native.Nat.{ℕ, _+_, _-_, _*_}
-use mathlib.Core.Bool.{Bool, true, false, cond, _&&_}
+use mathlib.Core.Bool.{Bool, cond, _&&_}
 use mathlib.Core.List.{List, [], _∷_, _++_}
 use lib.Dec.{leb, ltb}
 use lib.Ieee.{Float}

@@ -1,7 +1,7 @@
 -- Document 01, "Settings": what each code means, the numbers of a depth and a range, and the weights of a matrix.
 -- Definitions only.
 use Prim.Native.Nat.{ℕ, _-_, _*_, _^_}
-use mathlib.Core.Bool.{Bool, true, false, cond, _||_}
+use mathlib.Core.Bool.{Bool, false, cond, _||_}
 use mathlib.Core.List.{List, [], _∷_}
 use lib.Dec.{eqb}
 use lib.Ieee.{Float, binary32, round}

@@ -1,6 +1,5 @@
 -- `yuv_support::codes_per_step` meets its contract. A known depth that is neither 8 nor 10 is 12.
 -- Assumes nothing.
-use borrow.Author.Needs.{needs}
 use mathlib.Core.Path.{_≡_, refl}
 use Prim.Native.Nat.{_-_, _^_}
 use lib.Dec.{lit<, lit≤}
