@@ -10,7 +10,7 @@ finished-row-part16-requires : tie.Need-finished-row-part16-requires
 finished-row-part16-requires c κs = search needs
 
 cut16-requires : tie.Need-cut16-requires
-cut16-requires c κs = let a = c .before .before .args in row-within (a .order) (a .width) (a .height) (a .rgb .now) (a .rgb-stride) (a .row) _ (c .finished-row-part16 .ensures)
+cut16-requires c κs = row-within _ _ _ (c .before .before .args .rgb .now) _ _ _ (c .finished-row-part16 .ensures)
 
 returns : tie.Need-returns
 returns c = c .cut16 .ensures ∙ row-cut _ _ _ _ _ _ _ (c .before .finished-row-part16 .ensures)

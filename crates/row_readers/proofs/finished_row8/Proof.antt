@@ -10,7 +10,7 @@ finished-row-part8-requires : tie.Need-finished-row-part8-requires
 finished-row-part8-requires c κs = search needs
 
 cut8-requires : tie.Need-cut8-requires
-cut8-requires c κs = let a = c .before .before .args in row-within (a .order) (a .width) (a .height) (a .rgb .now) (a .rgb-stride) (a .row) _ (c .finished-row-part8 .ensures)
+cut8-requires c κs = row-within _ _ _ (c .before .before .args .rgb .now) _ _ _ (c .finished-row-part8 .ensures)
 
 returns : tie.Need-returns
 returns c = c .cut8 .ensures ∙ row-cut _ _ _ _ _ _ _ (c .before .finished-row-part8 .ensures)
