@@ -77,7 +77,7 @@ pub fn near_row(sampling: YuvChromaSubsampling, height: u32, row: u32) -> u32
 }
 
 // The far chroma row of a luma row; where it blends only one chroma row, that one again.
-pub fn other_row(sampling: YuvChromaSubsampling, height: u32, row: u32) -> u32
+fn other_row(sampling: YuvChromaSubsampling, height: u32, row: u32) -> u32
     requires { ⌜ row < height ⌝ }
     ensures { λ r. ⌜ r ≡ otherRow sampling height row ⌝ }
 {
