@@ -2,7 +2,8 @@
 // Each hands on to one entry and promises what that entry promises. Nothing is asked of the caller beyond what the header says of pointers.
 ghost use mathlib.Core.Path.{_≡_};
 ghost use Rattle.yuv_support.specs.Settings.{depths8, depths16};
-ghost use Rattle.yuv_support.specs.Conversion.{answerTo, destinationAfter, Demand3};
+ghost use Rattle.yuv_support.specs.Distance.{AnySamples, WithinDepth};
+ghost use Rattle.yuv_support.specs.Conversion.{answerTo, destinationAfter, Demand3After};
 ghost use Rattle.yuv_error.specs.Told.{asTold};
 ghost use Rattle.settings_used.specs.Used.{settingsUsedOf};
 ghost use Rattle.row_readers.specs.Readers.{extentOf, rowPlace, chromaRowPlace};
@@ -50,7 +51,7 @@ pub extern "C" fn dethrowg_yuv8_to_rgb(
 ) -> Told
     ensures { λ r. ⌜ r ≡ asTold (answerTo depths8 (codesOf depth sampling order range matrix kr kb) (imageOf width height «y_stride» «u_stride» «v_stride») (now (y .entry)) (now (u .entry)) (now (v .entry)) «rgb_stride» (now (rgb .entry))) ⌝ }
     ensures { λ r. ⌜ now (rgb .exit) ≡ destinationAfter depths8 (codesOf depth sampling order range matrix kr kb) (imageOf width height «y_stride» «u_stride» «v_stride») (now (y .entry)) (now (u .entry)) (now (v .entry)) «rgb_stride» (now (rgb .entry)) ⌝ }
-    ensures { λ r. ⌜ Demand3 depths8 (codesOf depth sampling order range matrix kr kb) (imageOf width height «y_stride» «u_stride» «v_stride») (now (y .entry)) (now (u .entry)) (now (v .entry)) «rgb_stride» (now (rgb .entry)) (now (rgb .exit)) ⌝ }
+    ensures { λ r. ⌜ Demand3After AnySamples depths8 (codesOf depth sampling order range matrix kr kb) (imageOf width height «y_stride» «u_stride» «v_stride») (now (y .entry)) (now (u .entry)) (now (v .entry)) «rgb_stride» (now (rgb .entry)) (now (rgb .exit)) ⌝ }
 {
     let codes = Codes {
         depth,
@@ -102,7 +103,7 @@ pub extern "C" fn dethrowg_yuv16_to_rgb(
 ) -> Told
     ensures { λ r. ⌜ r ≡ asTold (answerTo depths16 (codesOf depth sampling order range matrix kr kb) (imageOf width height «y_stride» «u_stride» «v_stride») (now (y .entry)) (now (u .entry)) (now (v .entry)) «rgb_stride» (now (rgb .entry))) ⌝ }
     ensures { λ r. ⌜ now (rgb .exit) ≡ destinationAfter depths16 (codesOf depth sampling order range matrix kr kb) (imageOf width height «y_stride» «u_stride» «v_stride») (now (y .entry)) (now (u .entry)) (now (v .entry)) «rgb_stride» (now (rgb .entry)) ⌝ }
-    ensures { λ r. ⌜ Demand3 depths16 (codesOf depth sampling order range matrix kr kb) (imageOf width height «y_stride» «u_stride» «v_stride») (now (y .entry)) (now (u .entry)) (now (v .entry)) «rgb_stride» (now (rgb .entry)) (now (rgb .exit)) ⌝ }
+    ensures { λ r. ⌜ Demand3After WithinDepth depths16 (codesOf depth sampling order range matrix kr kb) (imageOf width height «y_stride» «u_stride» «v_stride») (now (y .entry)) (now (u .entry)) (now (v .entry)) «rgb_stride» (now (rgb .entry)) (now (rgb .exit)) ⌝ }
 {
     let codes = Codes {
         depth,

@@ -1,24 +1,28 @@
 -- Laws of the letters of a pixel and of the picture. Element column·channels + k of a row holds letter k of that column's pixel (`element-at`),
--- so a component stands in the written band where the definition looks for it (`component-in`); and a picture whose every component is
--- close to the exact equation is faithful (`faithful-band`, `faithful-picture`).
+-- so in the written band each pixel stands whole (`pixel-in`), its components where the definition looks for them (`component-in`), and what
+-- belongs to no pixel is kept (`kept-in`); and a picture whose every component is close to the exact equation is faithful (`faithful-band`,
+-- `faithful-picture`).
 -- Assumes nothing.
-use mathlib.Core.Path.{_≡_, refl, ap, _∙_}
-use mathlib.Core.List.{List}
-use Prim.Native.Nat.{ℕ, _+_, _*_, _/_, _%_, _≤_, _<_}
-use native.Mathlib.Nat.{mul-comm}
+use mathlib.Core.Path.{_≡_, refl, sym, ap, _∙_}
+use mathlib.Core.Logic.{_⊎_, inl, inr}
+use mathlib.Core.List.{List, [], _∷_, map}
+use Prim.Native.Nat.{ℕ, zero, suc, _+_, _*_, _/_, _%_, _≤_, _<_}
+use native.Mathlib.Nat.{mul-comm, mul-le-mul-right, div-add-mod, mod-lt, div-lt-iff-lt-mul, not-suc-le-zero, le-of-suc-le-suc}
 use native.Mathlib.Omega.{arith}
 use lib.Arith.{digits-lt, digits-div, digits-mod}
 use lib.Dec.{lit<, lit≤}
-use lib.ListN.{length, getD}
+use lib.ListN.{length, getD, take, drop, length-map, length-drop}
+use lib.Seq.{ext-getD, length-take-le, getD-take, getD-drop}
 use Rattle.yuv_support.specs.declared.YuvSourceChannels.{YuvSourceChannels}
 use Rattle.yuv_support.specs.declared.YuvSourceChannels.the-variants.{Rgb, Rgba, Bgra, Bgr}
 use Rattle.yuv_support.specs.declared.Settings.{Settings}
 use Rattle.yuv_support.specs.Blend.{Frame, Cb, Cr, lumaAt, chroma16}
 use Rattle.yuv_support.specs.Component.{Component, R, G, B, componentAt}
-use Rattle.yuv_support.specs.Picture.{colour, alpha, lettersOf, channelsOf, placeIn, valueOf, elementOf, band, picture}
+use Rattle.yuv_support.specs.Picture.{colour, alpha, lettersOf, channelsOf, placeIn, valueOf, pixelOf, pixelBegin, pixelIn, OfNoPixel, elementOf, band, picture}
 use Rattle.yuv_support.specs.Questions.{needed}
 use Rattle.yuv_support.specs.Distance.{E, Close, componentIn, FaithfulBand, Faithful}
-use Rattle.yuv_support.proofs.Rows.{cell-at, row-fits, painted-length}
+use Rattle.yuv_support.proofs.Overlay.{below-or-not}
+use Rattle.yuv_support.proofs.Rows.{Outside, cell-at, cell-kept, row-fits, painted-length}
 
 -- ---- letters and channels
 
@@ -67,6 +71,21 @@ place-below o c = placed o c .0
 pub letter-at-place : (o : YuvSourceChannels) (c : Component) → getD (lettersOf o) (placeIn o c) alpha ≡ colour c
 letter-at-place o c = placed o c .1
 
+-- the pixel has as many values as the order has letters, and each is its letter's
+pixel-length : (s : Settings) (f : Frame) (row column : ℕ) → length (pixelOf s f row column) ≡ channelsOf (s .order)
+unfolding channelsOf
+pixel-length s f row column = length-map (lettersOf (s .order)) (valueOf s f row column)
+
+map-at : {A : Type 0} (g : A → ℕ) (d : A) (l : List A) (k : ℕ) → k < length l → getD (map g l) k 0 ≡ g (getD l k d)
+map-at g d [] k h = absurd (not-suc-le-zero h)
+map-at g d (x ∷ xs) zero h = refl
+map-at g d (x ∷ xs) (suc k) h = map-at g d xs k (le-of-suc-le-suc h)
+
+pixel-at : (s : Settings) (f : Frame) (row column k : ℕ) → k < channelsOf (s .order)
+    → getD (pixelOf s f row column) k 0 ≡ valueOf s f row column (getD (lettersOf (s .order)) k alpha)
+unfolding channelsOf
+pixel-at s f row column k h = map-at (valueOf s f row column) alpha (lettersOf (s .order)) k h
+
 -- ---- the elements of a row
 
 pub element-at : (s : Settings) (f : Frame) (row column k : ℕ) → k < channelsOf (s .order)
@@ -77,12 +96,6 @@ element-at s f row column k h =
     let m : (column * channelsOf (s .order) + k) % channelsOf (s .order) ≡ k = digits-mod column h in
     rw (d, m)
 
-component-at-place : (s : Settings) (f : Frame) (c : Component) (row column : ℕ)
-    → elementOf s f row (column * channelsOf (s .order) + placeIn (s .order) c) ≡ componentAt s f c row column
-unfolding valueOf
-component-at-place s f c row column =
-    element-at s f row column (placeIn (s .order) c) (place-below (s .order) c) ∙ ap (valueOf s f row column) (letter-at-place (s .order) c)
-
 -- ---- the written band
 
 pub band-length : (s : Settings) (f : Frame) (stride first count : ℕ) (old : List ℕ) → length (band s f stride first count old) ≡ length old
@@ -90,18 +103,51 @@ unfolding band
 band-length s f stride first count old = painted-length (elementOf s f) stride (f .width * channelsOf (s .order)) first count old
 
 module _ (s : Settings) (f : Frame) (stride first count : ℕ) (old : List ℕ) (fits : f .width * channelsOf (s .order) ≤ stride) where
+  letter-in : (row column k : ℕ) → first ≤ row → row < first + count → column < f .width → k < channelsOf (s .order)
+      → stride * row + f .width * channelsOf (s .order) ≤ length old
+      → getD (band s f stride first count old) (pixelBegin s stride row column + k) 0
+      ≡ valueOf s f row column (getD (lettersOf (s .order)) k alpha)
+  unfolding band
+  letter-in row column k lo hi hc hk long =
+      let n : ℕ = channelsOf (s .order) in
+      let x : ℕ = column * n + k in
+      let hx : x < f .width * n = digits-lt hc hk in
+      let e : stride * row + n * column + k ≡ stride * row + x = rw (mul-comm n column) (omega arith) in
+      rw e
+      (cell-at (elementOf s f) stride (f .width * n) first count row x old fits lo hi hx (omega arith) ∙ element-at s f row column k hk)
+
   pub component-in : (c : Component) (row column : ℕ) → first ≤ row → row < first + count → column < f .width
       → stride * row + f .width * channelsOf (s .order) ≤ length old
       → componentIn s (band s f stride first count old) stride c row column ≡ componentAt s f c row column
-  unfolding band
+  unfolding valueOf
   component-in c row column lo hi hc long =
-      let n : ℕ = channelsOf (s .order) in
-      let x : ℕ = column * n + placeIn (s .order) c in
-      let hx : x < f .width * n = digits-lt hc (place-below (s .order) c) in
-      let e : stride * row + n * column + placeIn (s .order) c ≡ stride * row + x = rw (mul-comm n column) (omega arith) in
-      rw e
-      (cell-at (elementOf s f) stride (f .width * n) first count row x old fits lo hi hx (omega arith)
-      ∙ component-at-place s f c row column)
+      letter-in row column (placeIn (s .order) c) lo hi hc (place-below (s .order) c) long
+      ∙ ap (valueOf s f row column) (letter-at-place (s .order) c)
+
+  pub pixel-in : (row column : ℕ) → first ≤ row → row < first + count → column < f .width
+      → stride * row + f .width * channelsOf (s .order) ≤ length old
+      → pixelIn s (band s f stride first count old) stride row column ≡ pixelOf s f row column
+  pixel-in row column lo hi hc long =
+      ext-getD 0 _ _ (same ∙ sym (pixel-length s f row column))
+      (λ k b. let hk : k < n = omega (arith, same) in
+      getD-take n (drop begin out) k 0 hk ∙ getD-drop begin out k 0 ∙ letter-in row column k lo hi hc hk long
+      ∙ sym (pixel-at s f row column k hk))
+    where
+      n : ℕ
+      n = channelsOf (s .order)
+
+      begin : ℕ
+      begin = pixelBegin s stride row column
+
+      out : List ℕ
+      out = band s f stride first count old
+
+      same : length (take n (drop begin out)) ≡ n
+      same =
+          let l : length out ≡ length old = band-length s f stride first count old in
+          let h : column + 1 ≤ f .width = omega arith in
+          let m : n * (column + 1) ≤ f .width * n = rw (mul-comm n (column + 1)) (mul-le-mul-right n h) in
+          length-take-le n (drop begin out) (simp length-drop (omega arith))
 
 -- every component of the frame is close to the exact equation
 abbrev pub ComponentsClose : Settings → Frame → Type 0
@@ -122,3 +168,28 @@ module _ (s : Settings) (f : Frame) (stride : ℕ) (old : List ℕ) (close : Com
   pub faithful-picture : Faithful s f stride (picture s f stride old)
   unfolding picture
   faithful-picture = faithful-band 0 (f .height) (omega arith)
+
+-- what belongs to no pixel is kept: an element of the picture's rows that is among the first of its row is a letter of a pixel
+pub picture-kept : (s : Settings) (f : Frame) (stride : ℕ) (old : List ℕ) (j : ℕ) → OfNoPixel s f stride j
+    → getD (picture s f stride old) j 0 ≡ getD old j 0
+unfolding picture band
+picture-kept s f stride old j none =
+    cell-kept (elementOf s f) stride (f .width * n) 0 (f .height) j old (outside (below-or-not (j / stride) (f .height)) (below-or-not x (f .width * n)))
+  where
+    n : ℕ
+    n = channelsOf (s .order)
+
+    x : ℕ
+    x = j % stride
+
+    least : 0 < n
+    least = let h = three-or-four-channels (s .order) .0 in omega arith
+
+    place : j ≡ stride * (j / stride) + n * (x / n) + x % n
+    place = let a = div-add-mod j stride in let b = div-add-mod x n in omega arith
+
+    outside : (j / stride < f .height) ⊎ (f .height ≤ j / stride) → (x < f .width * n) ⊎ (f .width * n ≤ x)
+        → Outside stride (f .width * n) 0 (f .height) j
+    outside _ (inr past) = inr (inr past)
+    outside (inr below) (inl _) = inr (inl (omega arith))
+    outside (inl hr) (inl hx) = absurd (none (j / stride) (x / n) (x % n) hr (div-lt-iff-lt-mul least .1 hx) (mod-lt x least) place)

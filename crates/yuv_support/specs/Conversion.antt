@@ -4,15 +4,16 @@
 use mathlib.Core.Path.{_≡_}
 use mathlib.Core.Bool.{cond}
 use mathlib.Core.List.{List}
-use Prim.Native.Nat.{ℕ}
+use Prim.Native.Nat.{ℕ, _<_}
 use lib.Dec.{T, eqb}
-use lib.ListN.{length}
+use lib.ListN.{length, getD}
 use Rattle.yuv_support.specs.declared.Codes.{Codes}
+use Rattle.yuv_support.specs.declared.Settings.{Settings}
 use Rattle.yuv_support.specs.declared.YuvPlanarImage.{YuvPlanarImage}
-use Rattle.yuv_support.specs.Blend.{frameOf}
-use Rattle.yuv_support.specs.Picture.{picture}
+use Rattle.yuv_support.specs.Blend.{Frame, frameOf}
+use Rattle.yuv_support.specs.Picture.{picture, pixelOf, pixelIn, OfNoPixel}
 use Rattle.yuv_support.specs.Questions.{Verdict, Request, extent, verdict, decoded, conversionQuestions}
-use Rattle.yuv_support.specs.Distance.{measured, WithinDepth, Faithful}
+use Rattle.yuv_support.specs.Distance.{measured, Faithful}
 
 abbrev pub requestFor : Codes → YuvPlanarImage → List ℕ → List ℕ → List ℕ → ℕ → List ℕ → Request
 requestFor codes image y u v stride rgb = record {
@@ -33,11 +34,18 @@ unfoldable pub destinationAfter : List ℕ → Codes → YuvPlanarImage → List
 destinationAfter known codes image y u v stride rgb =
     cond (eqb (answerTo known codes image y u v stride rgb .number) 0) (picture (decoded codes) (frameOf image y u v) stride rgb) rgb
 
--- demand 3 of the finished picture `out`: where the call is accepted, the matrix is BT.601, BT.709 or BT.2020 and the samples lie within
--- the depth, every component of every pixel lies less than the depth's bound from its exact equation
-abbrev pub Demand3 : List ℕ → Codes → YuvPlanarImage → List ℕ → List ℕ → List ℕ → ℕ → List ℕ → List ℕ → Type 0
-Demand3 known codes image y u v stride rgb out =
-    answerTo known codes image y u v stride rgb .number ≡ 0
-    → T (measured (decoded codes .matrix))
-    → WithinDepth (decoded codes) (frameOf image y u v)
-    → Faithful (decoded codes) (frameOf image y u v) stride out
+-- demand 3 of the finished destination `out`, one claim: planes and destination `rgb` are as they stood before the call, and `Asked` is what
+-- part 3 asks of the samples
+pub record Demand3 (Asked : Settings → Frame → Type 0) (s : Settings) (f : Frame) (stride : ℕ) (rgb out : List ℕ) : Type 0 where
+  -- 1. every pixel holds its three components and the opaque alpha, whatever the matrix and the samples
+  pub pixels : (row column : ℕ) → row < f .height → column < f .width → pixelIn s out stride row column ≡ pixelOf s f row column
+  -- 2. all else is kept: every element that belongs to no pixel, and the length
+  pub kept : (j : ℕ) → OfNoPixel s f stride j → getD out j 0 ≡ getD rgb j 0
+  pub same-length : length out ≡ length rgb
+  -- 3. for BT.601, BT.709 and BT.2020 every component of every pixel lies less than the depth's bound from its exact equation
+  pub distance : T (measured (s .matrix)) → Asked s f → Faithful s f stride out
+
+-- it holds whenever the call is accepted
+abbrev pub Demand3After : (Settings → Frame → Type 0) → List ℕ → Codes → YuvPlanarImage → List ℕ → List ℕ → List ℕ → ℕ → List ℕ → List ℕ → Type 0
+Demand3After Asked known codes image y u v stride rgb out =
+    answerTo known codes image y u v stride rgb .number ≡ 0 → Demand3 Asked (decoded codes) (frameOf image y u v) stride rgb out

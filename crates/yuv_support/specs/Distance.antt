@@ -13,7 +13,7 @@ use Rattle.yuv_support.specs.declared.Settings.{Settings}
 use Rattle.yuv_support.specs.Settings.{maxOf, biasY, biasC, rangeY, rangeC, weightR, weightB, weightG}
 use Rattle.yuv_support.specs.Blend.{Frame, Cb, Cr, sample, chromaWidth, chromaHeight, lumaAt, chroma16}
 use Rattle.yuv_support.specs.Component.{Component, R, G, B, step, clamp}
-use Rattle.yuv_support.specs.Picture.{channelsOf, placeIn}
+use Rattle.yuv_support.specs.Picture.{placeIn, pixelBegin}
 
 -- D
 unfoldable pub D : ℕ → YuvRange → YuvStandardMatrix → ℕ
@@ -83,10 +83,13 @@ pub record WithinDepth (s : Settings) (f : Frame) : Type 0 where
   pub u : PlaneWithin s (f .u) (f .u-stride) (chromaWidth (f .width)) (chromaHeight (s .sampling) (f .height))
   pub v : PlaneWithin s (f .v) (f .v-stride) (chromaWidth (f .width)) (chromaHeight (s .sampling) (f .height))
 
+-- nothing is asked of the samples
+abbrev pub AnySamples : Settings → Frame → Type 0
+AnySamples s f = Unit {0}
+
 -- the destination's element that holds a component of the pixel at a row and a column
 abbrev pub componentIn : Settings → List ℕ → ℕ → Component → ℕ → ℕ → ℕ
-componentIn s rgb stride c row column =
-    getD rgb (stride * row + channelsOf (s .order) * column + placeIn (s .order) c) 0
+componentIn s rgb stride c row column = getD rgb (pixelBegin s stride row column + placeIn (s .order) c) 0
 
 -- each component in the destination is close to the equation, at every pixel of a band of rows
 abbrev pub FaithfulBand : Settings → Frame → ℕ → ℕ → ℕ → List ℕ → Type 0

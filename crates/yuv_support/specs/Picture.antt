@@ -1,10 +1,11 @@
 -- Document 01, "The words of demand 3": where the pixels stand, and the whole destination after a conversion.
 -- Definitions only.
-use Prim.Native.Nat.{ℕ, suc, _+_, _*_, _/_, _%_}
+use Prim.Native.Nat.{ℕ, suc, _+_, _*_, _/_, _%_, _<_}
+use mathlib.Core.Path.{_≡_}
 use mathlib.Core.Bool.{cond, _&&_}
-use mathlib.Core.List.{List, [], _∷_}
+use mathlib.Core.List.{List, [], _∷_, map}
 use lib.Dec.{leb, ltb}
-use lib.ListN.{length, getD}
+use lib.ListN.{length, getD, take, drop}
 use Rattle.yuv_support.specs.declared.YuvSourceChannels.{YuvSourceChannels}
 use Rattle.yuv_support.specs.declared.YuvSourceChannels.the-variants.{Rgb, Rgba, Bgra, Bgr}
 use Rattle.yuv_support.specs.declared.Settings.{Settings}
@@ -46,6 +47,23 @@ placeIn Bgr B = 0
 unfoldable pub valueOf : Settings → Frame → ℕ → ℕ → Letter → ℕ
 valueOf s f row column (colour c) = componentAt s f c row column
 valueOf s f row column alpha = maxOf (s .depth)
+
+-- the pixel: its three components and, where the order has one, the opaque alpha, as the order's letters stand
+abbrev pub pixelOf : Settings → Frame → ℕ → ℕ → List ℕ
+pixelOf s f row column = map (valueOf s f row column) (lettersOf (s .order))
+
+-- where it begins in the destination, and what the destination holds there
+abbrev pub pixelBegin : Settings → ℕ → ℕ → ℕ → ℕ
+pixelBegin s stride row column = stride * row + channelsOf (s .order) * column
+
+abbrev pub pixelIn : Settings → List ℕ → ℕ → ℕ → ℕ → List ℕ
+pixelIn s rgb stride row column = take (channelsOf (s .order)) (drop (pixelBegin s stride row column) rgb)
+
+-- element j of the destination belongs to no pixel
+abbrev pub OfNoPixel : Settings → Frame → ℕ → ℕ → Type 0
+OfNoPixel s f stride j =
+    (row column k : ℕ) → row < f .height → column < f .width → k < channelsOf (s .order)
+    → j ≡ pixelBegin s stride row column + k → ⊥
 
 -- element x of a row, counted from the row's begin: the values stand as the letters do
 unfoldable pub elementOf : Settings → Frame → ℕ → ℕ → ℕ

@@ -4,6 +4,7 @@ use borrow.Author.Needs.{needs}
 use mathlib.Core.Path.{_≡_, sym, _∙_, subst}
 use lib.Dec.{T}
 use Rattle.yuv_support.specs.Settings.{depths16}
+use Rattle.yuv_support.specs.Distance.{WithinDepth}
 use Rattle.yuv_support.specs.Conversion.{answerTo}
 use Rattle.yuv_support.proofs.Conversion.{depth-of-16}
 use Rattle.yuv_error.specs.Told.{told}
@@ -38,12 +39,12 @@ same-length c = search needs
 returns : tie.Need-returns
 returns c =
     let a = c .before .before .before .before .before .before .before .before .before .before .before .before .args in
-    converted depths16 depth-of-16 (a .codes) (a .image) (a .y .now) (a .u .now) (a .v .now) (a .rgb-stride) (a .rgb .now) (told (c .before .before .before .before .before .before .check-conversion .result)) (answer (c .before .before .before .before .before .before)) (sym (c .before .before .before .before .before .is-accepted .ensures) ∙ c .before .before .before .before .if1 .taken) (c .before .before .convert .last .1 .1 .1 .1 .1 .0) (c .before .before .convert .ensures)
+    converted depths16 depth-of-16 (a .codes) (a .image) (a .y .now) (a .u .now) (a .v .now) (a .rgb-stride) (a .rgb .now) (told (c .before .before .before .before .before .before .check-conversion .result)) (answer (c .before .before .before .before .before .before)) WithinDepth (λ d w. w) (sym (c .before .before .before .before .before .is-accepted .ensures) ∙ c .before .before .before .before .if1 .taken) (c .before .before .convert .last .1 .1 .1 .1 .1 .0) (c .before .before .convert .ensures)
 
 returns-2 : tie.Need-returns-2
 returns-2 c =
     let a = c .before .before .before .before .before .before .before .before .args in
-    untouched depths16 depth-of-16 (a .codes) (a .image) (a .y .now) (a .u .now) (a .v .now) (a .rgb-stride) (a .rgb .now) (told (c .before .before .check-conversion .result)) (answer (c .before .before)) (sym (c .before .is-accepted .ensures) ∙ c .if1 .left)
+    untouched depths16 depth-of-16 (a .codes) (a .image) (a .y .now) (a .u .now) (a .v .now) (a .rgb-stride) (a .rgb .now) (told (c .before .before .check-conversion .result)) (answer (c .before .before)) WithinDepth (λ d w. w) (sym (c .before .is-accepted .ensures) ∙ c .if1 .left)
 
 pub yuv16-to-rgbx-bilinear-spec : {M : Type 1} → statement M
 yuv16-to-rgbx-bilinear-spec =

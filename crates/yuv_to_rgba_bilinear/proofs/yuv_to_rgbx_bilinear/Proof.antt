@@ -2,10 +2,14 @@
 -- Assumes nothing.
 use borrow.Author.Needs.{needs}
 use mathlib.Core.Path.{_≡_, sym, _∙_, subst}
+use native.Mathlib.Omega.{arith}
 use lib.Dec.{T}
-use Rattle.yuv_support.specs.Settings.{depths8}
+use Rattle.yuv_support.specs.Settings.{among, depths8}
+use Rattle.yuv_support.specs.Blend.{frameOf}
+use Rattle.yuv_support.specs.Questions.{decoded}
+use Rattle.yuv_support.specs.Distance.{AnySamples, WithinDepth}
 use Rattle.yuv_support.specs.Conversion.{answerTo}
-use Rattle.yuv_support.proofs.Conversion.{depth-of-8}
+use Rattle.yuv_support.proofs.Conversion.{depth-of-8, bytes-within}
 use Rattle.yuv_error.specs.Told.{told}
 use Rattle.kernel.proofs.Accepted.{number-zero, converted, untouched}
 use Rattle.yuv_to_rgba_bilinear.proofs.yuv_to_rgbx_bilinear.Statement.{statement}
@@ -27,6 +31,16 @@ answer : (c : tie.After-check-conversion)
 unfolding answerTo
 answer c = c .check-conversion .ensures ∙ rw (c .before .is-known-depth .ensures)
 
+-- bytes lie within the depth, whatever they are
+enough : (c : tie.After-check-conversion) → let a = c .before .before .before .before .before .before .args in
+    T (among (a .codes .depth) depths8) → AnySamples (decoded (a .codes)) (frameOf (a .image) (a .y .now) (a .u .now) (a .v .now))
+    → WithinDepth (decoded (a .codes)) (frameOf (a .image) (a .y .now) (a .u .now) (a .v .now))
+enough c d _ =
+    bytes-within _ _ d
+    (λ i. omega (arith, c .before .before .before .before .before .shared-slice-known .given i))
+    (λ i. omega (arith, c .before .before .before .before .shared-slice-known2 .given i))
+    (λ i. omega (arith, c .before .before .before .shared-slice-known3 .given i))
+
 convert-requires : tie.Need-convert-requires
 convert-requires c κs =
     let a = c .before .before .before .before .before .before .before .before .before .args in
@@ -38,12 +52,12 @@ same-length c = search needs
 returns : tie.Need-returns
 returns c =
     let a = c .before .before .before .before .before .before .before .before .before .before .before .before .args in
-    converted depths8 depth-of-8 (a .codes) (a .image) (a .y .now) (a .u .now) (a .v .now) (a .rgb-stride) (a .rgb .now) (told (c .before .before .before .before .before .before .check-conversion .result)) (answer (c .before .before .before .before .before .before)) (sym (c .before .before .before .before .before .is-accepted .ensures) ∙ c .before .before .before .before .if1 .taken) (c .before .before .convert .last .1 .1 .1 .1 .1 .0) (c .before .before .convert .ensures)
+    converted depths8 depth-of-8 (a .codes) (a .image) (a .y .now) (a .u .now) (a .v .now) (a .rgb-stride) (a .rgb .now) (told (c .before .before .before .before .before .before .check-conversion .result)) (answer (c .before .before .before .before .before .before)) AnySamples (enough (c .before .before .before .before .before .before)) (sym (c .before .before .before .before .before .is-accepted .ensures) ∙ c .before .before .before .before .if1 .taken) (c .before .before .convert .last .1 .1 .1 .1 .1 .0) (c .before .before .convert .ensures)
 
 returns-2 : tie.Need-returns-2
 returns-2 c =
     let a = c .before .before .before .before .before .before .before .before .args in
-    untouched depths8 depth-of-8 (a .codes) (a .image) (a .y .now) (a .u .now) (a .v .now) (a .rgb-stride) (a .rgb .now) (told (c .before .before .check-conversion .result)) (answer (c .before .before)) (sym (c .before .is-accepted .ensures) ∙ c .if1 .left)
+    untouched depths8 depth-of-8 (a .codes) (a .image) (a .y .now) (a .u .now) (a .v .now) (a .rgb-stride) (a .rgb .now) (told (c .before .before .check-conversion .result)) (answer (c .before .before)) AnySamples (enough (c .before .before)) (sym (c .before .is-accepted .ensures) ∙ c .if1 .left)
 
 pub yuv-to-rgbx-bilinear-spec : {M : Type 1} → statement M
 yuv-to-rgbx-bilinear-spec =
