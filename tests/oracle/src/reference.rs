@@ -26,7 +26,8 @@ impl Reference for u16 {
     }
 }
 
-fn image<'a, T: Copy + std::fmt::Debug>(
+/// A request with its planes, as the Rust takes them.
+pub fn image<'a, T: Copy + std::fmt::Debug>(
     q: &Request, planes: &'a Planes<T>,
 ) -> YuvPlanarImage<'a, T> {
     YuvPlanarImage {
@@ -45,7 +46,8 @@ fn range(code: u32) -> YuvRange {
     [YuvRange::Limited, YuvRange::Full][code as usize]
 }
 
-fn matrix(codes: &Codes) -> YuvStandardMatrix {
+/// The Rust's matrix of a code and its weights.
+pub fn matrix(codes: &Codes) -> YuvStandardMatrix {
     use YuvStandardMatrix::*;
     [Bt601, Bt709, Bt2020, Smpte240, Bt470_6, Fcc, Custom(codes.kr, codes.kb)]
         [codes.matrix as usize]

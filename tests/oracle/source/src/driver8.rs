@@ -19,6 +19,10 @@ pub fn driver(order: u32, sampling: u32) -> Driver {
         (1, 1) => yuv_to_rgbx_impl_bilinear::<1, 1, 13>,
         (2, 1) => yuv_to_rgbx_impl_bilinear::<2, 1, 13>,
         (3, 1) => yuv_to_rgbx_impl_bilinear::<3, 1, 13>,
+        // codes on which the source itself panics
+        (0, 2) => yuv_to_rgbx_impl_bilinear::<0, 2, 13>,
+        (0, 3) => yuv_to_rgbx_impl_bilinear::<0, 3, 13>,
+        (4, 0) => yuv_to_rgbx_impl_bilinear::<4, 0, 13>,
         _ => panic!("no driver for order {order}, sampling {sampling}"),
     }
 }
