@@ -2,24 +2,40 @@
  *
  * Link libdethrowg.a (x86-64 Linux, made by `rt staticlib dethrowg`).
  *
- * Codes:
- *   sampling  0 is 4:2:0, 1 is 4:2:2
- *   order     0 RGB, 1 RGBA, 2 BGRA, 3 BGR; alpha is opaque
- *   range     0 limited, 1 full
- *   matrix    0 BT.601, 1 BT.709, 2 BT.2020, 3 SMPTE 240, 4 BT.470-6, 5 FCC, 6 custom weights
- *   depth     8 for bytes; 10 or 12, in the low bits, for uint16_t
- * kr and kb are the weights of red and blue for matrix 6; the others ignore them.
+ * Samples. Plane u holds Cb and plane v holds Cr. Depth 8 is uint8_t; depths 10 and 12 are uint16_t
+ * in the host's byte order, the sample in the low bits. The picture has the depth of its planes:
+ * 10-bit planes give components from 0 to 1023 in uint16_t. Alpha is the largest code: 255, 1023 or
+ * 4095.
  *
  * Sides are 1 to 16384. Strides and lengths are counted in elements, not in bytes. A length may be
  * larger than the picture needs. The chroma width is ceil(width/2); the chroma height is
  * ceil(height/2) in 4:2:0 and the height in 4:2:2.
  *
- * A buffer is a pointer and the length that follows it. Every function counts on this, also where it
- * refuses, and no question tests it: the pointer is aligned for its element and not null, even at
- * length 0; all elements up to the length can be read, and written in a destination that is converted
- * into, also those that the picture does not need; that destination overlaps no plane; and no one else
- * writes to the buffers during the call. Planes may overlap each other. No pointer is kept after the
- * call, and nothing else is kept between calls.
+ * A buffer is a pointer and the length that follows it. Every function counts on this, also where
+ * it refuses, and no question tests it: the pointer is aligned for its element and not null, even
+ * at length 0; all elements up to the length can be read, and written in a destination that is
+ * converted into, also those that the picture does not need; that destination overlaps no plane;
+ * and no one else writes to the buffers during the call. Planes may overlap each other.
+ *
+ * Threads. No pointer is kept after the call, and nothing else is kept between calls. So all
+ * functions may run in several threads at once, also on the same planes, as long as no one writes
+ * to a buffer of a call that runs.
+ *
+ * Bounds. Proved for BT.601, BT.709 and BT.2020 (matrices 0 to 2): each component is less than 8/5
+ * codes (8 bits), 17/10 (10 bits) or 2 (12 bits) from the standard's exact equation, clamped to the
+ * depth, of the pixel's luma and of its chroma as blended here but not rounded. At 10 and 12 bits
+ * this is for samples within the depth; for bytes always.
+ *
+ * Three things that a user who measures must know are kept from the Rust source; the figures stand
+ * in docs/DIFFERENCES.md.
+ *  - Where chroma lies. Sample k is taken to lie at luma column 2k - 1/2, in 4:2:0 also at luma row
+ *    2k - 1/2. The usual places are others; against them chroma in the picture is moved to the
+ *    left, in 4:2:0 also upwards: by 1 pixel where it was centred (at 2k + 1/2: JPEG, MPEG-1), by
+ *    1/2 pixel where it was co-sited (at 2k: the columns of MPEG-2 and of 4:2:2). Luma is not moved.
+ *  - Cr's tail. In 4:2:0, in rows that blend two chroma rows, the last two columns (at an odd width
+ *    the last one) take Cb as (3 near + far)/4 but Cr as (near + 3 far)/4.
+ *  - SMPTE 240 at 8 bits has the weights of red and blue exchanged; at 10 and 12 bits they stand
+ *    right. Custom weights 0.212, 0.087 are the right ones at 8 bits.
  */
 #ifndef DETHROWG_H
 #define DETHROWG_H
@@ -31,28 +47,74 @@
 extern "C" {
 #endif
 
-/* The number is 0 for an accepted call, else that of the first question which got a "no":
- *    1  sampling is 0 or 1
- *    2  the other codes and the depth are known
- *    3  both sides are at least 1
- *    4  both sides are at most 16384
- *    5  the destination is long enough                 (needed, actual)
- *    6  its stride is at least width * channels        (needed, actual)
- *    7  the luma stride is at least the width          (width * height, stride * height)
- *    8  the luma plane is long enough                  (needed, actual)
- *    9, 10  the same of the U plane, with chroma width and height
- *   11, 12  the same of the V plane
- *   13  custom weights: both are from 0 to 1, (1 - kr) - kb in float is above 0, and the two
- *       green coefficients together are at most 32767
- *   14  the row is below the height
- * expected and received are the two values in parentheses, else 0. Needed is
- * stride * (height - 1) + the elements of a row. */
+/* The codes of the parameters. Any other value can be asked too, and is refused. The depth is the
+ * number 8, 10 or 12. */
+
+enum dethrowg_sampling {
+    DETHROWG_YUV420 = 0,
+    DETHROWG_YUV422 = 1
+};
+
+enum dethrowg_order {
+    DETHROWG_RGB = 0,
+    DETHROWG_RGBA = 1,
+    DETHROWG_BGRA = 2,
+    DETHROWG_BGR = 3
+};
+
+enum dethrowg_range {
+    DETHROWG_LIMITED = 0,
+    DETHROWG_FULL = 1
+};
+
+/* kr and kb are the weights of red and blue for DETHROWG_CUSTOM; the others ignore them. */
+enum dethrowg_matrix {
+    DETHROWG_BT601 = 0,
+    DETHROWG_BT709 = 1,
+    DETHROWG_BT2020 = 2,
+    DETHROWG_SMPTE240 = 3,
+    DETHROWG_BT470_6 = 4,
+    DETHROWG_FCC = 5,
+    DETHROWG_CUSTOM = 6
+};
+
+enum dethrowg_plane {
+    DETHROWG_PLANE_U = 0,
+    DETHROWG_PLANE_V = 1
+};
+
+/* The number is 0 for an accepted call, else that of the first question which got a "no". */
+enum dethrowg_number {
+    DETHROWG_ACCEPTED = 0,
+    DETHROWG_SAMPLING_UNKNOWN = 1,     /* is sampling 0 or 1? */
+    DETHROWG_CODE_UNKNOWN = 2,         /* are the other codes and the depth known? */
+    DETHROWG_SIDE_ZERO = 3,            /* are both sides at least 1? */
+    DETHROWG_SIDE_TOO_LARGE = 4,       /* are both sides at most 16384? */
+    DETHROWG_RGB_TOO_SHORT = 5,        /* is the destination long enough? (needed, actual) */
+    DETHROWG_RGB_STRIDE_TOO_SMALL = 6, /* is its stride at least width * channels?
+                                          (needed, actual) */
+    DETHROWG_Y_STRIDE_TOO_SMALL = 7,   /* is the luma stride at least the width?
+                                          (width * height, stride * height) */
+    DETHROWG_Y_TOO_SHORT = 8,          /* is the luma plane long enough? (needed, actual) */
+    DETHROWG_U_STRIDE_TOO_SMALL = 9,   /* 7 of the U plane, with chroma width and height */
+    DETHROWG_U_TOO_SHORT = 10,         /* 8 of the U plane */
+    DETHROWG_V_STRIDE_TOO_SMALL = 11,  /* 7 of the V plane */
+    DETHROWG_V_TOO_SHORT = 12,         /* 8 of the V plane */
+    DETHROWG_WEIGHTS_UNUSABLE = 13,    /* custom weights: are both from 0 to 1, is (1 - kr) - kb in
+                                          float above 0, and are the two green coefficients together
+                                          at most 32767? */
+    DETHROWG_NO_SUCH_ROW = 14          /* is the row below the height? */
+};
+
+/* expected and received are the two values in parentheses above, else 0. Needed is
+ * stride * (height - 1) + the elements of a row. Words for each number: examples/words.inc. */
 typedef struct {
     uint64_t number, expected, received;
 } dethrowg_answer;
 
 /* The settings that a conversion uses: the largest sample, the biases, and the coefficients in
- * units of 1/8192; g1 and g2 are what green takes off for Cr and for Cb. All 0 where number is not. */
+ * units of 1/8192; g1 and g2 are what green takes off for Cr and for Cb. All 0 where number is
+ * not. */
 typedef struct {
     uint64_t number, expected, received;
     uint32_t max, bias_y, bias_uv, y, cr, cb, g1, g2;
@@ -96,8 +158,8 @@ dethrowg_part dethrowg_row16(
     uint32_t order, uint32_t width, uint32_t height,
     const uint16_t *rgb, size_t rgb_len, uint32_t rgb_stride, uint32_t row);
 
-/* The chroma row nearest to a luma row, in the U plane (plane 0) or the V plane (plane 1), chroma
- * width long. Asks 1, 2 (the plane), 3, 4, 9 to 12 of both planes, and 14. */
+/* The chroma row nearest to a luma row, in the U plane or the V plane, chroma width long.
+ * Asks 1, 2 (the plane), 3, 4, 9 to 12 of both planes, and 14. */
 dethrowg_part dethrowg_chroma_row8(
     uint32_t sampling, uint32_t plane, uint32_t width, uint32_t height,
     const uint8_t *u, size_t u_len, uint32_t u_stride,

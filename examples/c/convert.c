@@ -8,9 +8,8 @@
 
 #include "dethrowg.h"
 
-enum { WIDTH = 4, HEIGHT = 3, CHANNELS = 4, STRIDE = WIDTH * CHANNELS };
+enum { DEPTH = 8, WIDTH = 4, HEIGHT = 3, CHANNELS = 4, STRIDE = WIDTH * CHANNELS };
 enum { CHROMA_WIDTH = (WIDTH + 1) / 2, CHROMA_HEIGHT = (HEIGHT + 1) / 2 };
-enum { DEPTH = 8, YUV420 = 0, RGBA = 1, LIMITED = 0, BT709 = 1 };
 
 static const uint8_t y[WIDTH * HEIGHT] = {
     16, 90, 160, 235,
@@ -20,6 +19,30 @@ static const uint8_t y[WIDTH * HEIGHT] = {
 static const uint8_t u[CHROMA_WIDTH * CHROMA_HEIGHT] = {128, 90, 150, 128};
 static const uint8_t v[CHROMA_WIDTH * CHROMA_HEIGHT] = {128, 160, 100, 128};
 
+/* The words for each number of an answer. */
+static const char *const words[] = {
+#include "../words.inc"
+};
+
+/* ---- the calls of the library */
+
+static dethrowg_settings_used settings(void) {
+    return dethrowg_coefficients(DEPTH, DETHROWG_LIMITED, DETHROWG_BT709, 0, 0);
+}
+
+static dethrowg_answer convert(uint8_t *rgb, size_t rgb_len) {
+    return dethrowg_yuv8_to_rgb(
+        DEPTH, DETHROWG_YUV420, DETHROWG_RGBA, DETHROWG_LIMITED, DETHROWG_BT709, 0, 0, WIDTH, HEIGHT,
+        y, sizeof y, WIDTH, u, sizeof u, CHROMA_WIDTH, v, sizeof v, CHROMA_WIDTH,
+        rgb, rgb_len, STRIDE);
+}
+
+static dethrowg_part finished_row(const uint8_t *rgb, size_t rgb_len, uint32_t row) {
+    return dethrowg_row8(DETHROWG_RGBA, WIDTH, HEIGHT, rgb, rgb_len, STRIDE, row);
+}
+
+/* ---- printing */
+
 static void print_pixels(const uint8_t *pixels, size_t count) {
     for (size_t i = 0; i < count; i++) {
         const uint8_t *p = pixels + i * CHANNELS;
@@ -28,36 +51,37 @@ static void print_pixels(const uint8_t *pixels, size_t count) {
     printf("\n");
 }
 
-static dethrowg_answer convert(uint8_t *rgb, size_t rgb_len) {
-    return dethrowg_yuv8_to_rgb(
-        DEPTH, YUV420, RGBA, LIMITED, BT709, 0, 0, WIDTH, HEIGHT,
-        y, sizeof y, WIDTH, u, sizeof u, CHROMA_WIDTH, v, sizeof v, CHROMA_WIDTH,
-        rgb, rgb_len, STRIDE);
+static void print_refusal(uint64_t number, uint64_t expected, uint64_t received) {
+    printf("refused: %s (number %llu, expected %llu, received %llu)\n", words[number],
+           (unsigned long long)number, (unsigned long long)expected, (unsigned long long)received);
 }
 
 int main(void) {
     uint8_t rgb[STRIDE * HEIGHT] = {0};
-    dethrowg_settings_used s = dethrowg_coefficients(DEPTH, LIMITED, BT709, 0, 0);
+    dethrowg_settings_used s = settings();
     printf("settings used: max %u, biases %u and %u, y %u, cr %u, cb %u, g1 %u, g2 %u\n",
            s.max, s.bias_y, s.bias_uv, s.y, s.cr, s.cb, s.g1, s.g2);
 
     dethrowg_answer a = convert(rgb, sizeof rgb);
-    if (a.number != 0)
+    if (a.number != DETHROWG_ACCEPTED) {
+        print_refusal(a.number, a.expected, a.received);
         return 1;
+    }
     printf("picture:\n");
     for (int row = 0; row < HEIGHT; row++)
         print_pixels(rgb + row * STRIDE, WIDTH);
 
-    dethrowg_part part = dethrowg_row8(RGBA, WIDTH, HEIGHT, rgb, sizeof rgb, STRIDE, 1);
-    if (part.number != 0)
+    dethrowg_part part = finished_row(rgb, sizeof rgb, 1);
+    if (part.number != DETHROWG_ACCEPTED) {
+        print_refusal(part.number, part.expected, part.received);
         return 1;
+    }
     printf("finished row 1, elements %llu to %llu:\n", (unsigned long long)part.start,
            (unsigned long long)(part.start + part.length - 1));
     print_pixels(rgb + part.start, part.length / CHANNELS);
 
+    printf("destination one element short, ");
     a = convert(rgb, sizeof rgb - 1);
-    printf("destination one element short: number %llu, expected %llu, received %llu\n",
-           (unsigned long long)a.number, (unsigned long long)a.expected,
-           (unsigned long long)a.received);
+    print_refusal(a.number, a.expected, a.received);
     return 0;
 }

@@ -72,10 +72,19 @@ const Y: [u8; 12] = [
 const U: [u8; 4] = [128, 90, 150, 128];
 const V: [u8; 4] = [128, 160, 100, 128];
 
-/// A slice's pointer is never null, and Rust keeps `rgb` apart from the planes.
+/// The words for each number of an answer: quoted, one to a line.
+const WORDS: &str = include_str!("../words.inc");
+
+// ---- the calls of the library; a slice's pointer is never null
+
+fn settings() -> SettingsUsed {
+    unsafe { dethrowg_coefficients(DEPTH, LIMITED, BT709, 0.0, 0.0) }
+}
+
+/// Rust keeps `rgb` apart from the planes.
 #[rustfmt::skip]
-fn convert(rgb: &mut [u8]) -> Answer {
-    unsafe {
+fn convert(rgb: &mut [u8]) -> Result<(), String> {
+    let Answer { number, expected, received } = unsafe {
         dethrowg_yuv8_to_rgb(
             DEPTH, YUV420, RGBA, LIMITED, BT709, 0.0, 0.0, WIDTH, HEIGHT,
             Y.as_ptr(), Y.len(), WIDTH,
@@ -83,14 +92,28 @@ fn convert(rgb: &mut [u8]) -> Answer {
             V.as_ptr(), V.len(), CHROMA_WIDTH,
             rgb.as_mut_ptr(), rgb.len(), STRIDE,
         )
+    };
+    accepted(number, expected, received)
+}
+
+fn finished_row(rgb: &[u8], row: u32) -> Result<&[u8], String> {
+    let part = unsafe { dethrowg_row8(RGBA, WIDTH, HEIGHT, rgb.as_ptr(), rgb.len(), STRIDE, row) };
+    accepted(part.number, part.expected, part.received)?;
+    let start = part.start as usize;
+    Ok(&rgb[start..start + part.length as usize])
+}
+
+/// An error with the words of a refusal, unless the number is 0.
+fn accepted(number: u64, expected: u64, received: u64) -> Result<(), String> {
+    let words = WORDS.lines().nth(number as usize).unwrap_or_default();
+    let words = words.trim_end_matches(',').trim_matches('"');
+    match number {
+        0 => Ok(()),
+        _ => Err(format!("{words} (number {number}, expected {expected}, received {received})")),
     }
 }
 
-fn row(rgb: &[u8], row: u32) -> Option<&[u8]> {
-    let part = unsafe { dethrowg_row8(RGBA, WIDTH, HEIGHT, rgb.as_ptr(), rgb.len(), STRIDE, row) };
-    let start = part.start as usize;
-    (part.number == 0).then(|| &rgb[start..start + part.length as usize])
-}
+// ---- printing
 
 fn print_pixels(pixels: &[u8]) {
     for p in pixels.chunks(4) {
@@ -99,21 +122,20 @@ fn print_pixels(pixels: &[u8]) {
     println!();
 }
 
-fn main() {
-    let s = unsafe { dethrowg_coefficients(DEPTH, LIMITED, BT709, 0.0, 0.0) };
-    println!("settings used: {s:?}");
+fn main() -> Result<(), String> {
+    println!("settings used: {:?}", settings());
 
     let mut rgb = [0; (STRIDE * HEIGHT) as usize];
-    assert_eq!(convert(&mut rgb).number, 0);
+    convert(&mut rgb)?;
     println!("picture:");
     rgb.chunks(STRIDE as usize).for_each(print_pixels);
 
     println!("finished row 1:");
-    print_pixels(row(&rgb, 1).expect("a row below the height"));
+    print_pixels(finished_row(&rgb, 1)?);
 
-    let len = rgb.len() - 1;
-    let Answer { number, expected, received } = convert(&mut rgb[..len]);
-    println!(
-        "destination one element short: number {number}, expected {expected}, received {received}"
-    );
+    let short = rgb.len() - 1;
+    if let Err(refusal) = convert(&mut rgb[..short]) {
+        println!("destination one element short, refused: {refusal}");
+    }
+    Ok(())
 }
