@@ -102,39 +102,37 @@ fn cr_tail() {
     }
 }
 
-const SIDE: usize = 32;
-
 /// Y and Cb that the pixels got, along a row or down a column, where the planes change in that
 /// direction alone. With kr 1/4, kb 1/2 and neutral Cr, red is Y and blue is Y + Cb - 128.
-fn line(sampling: u32, down: bool, y: impl Fn(usize) -> u8, u: impl Fn(usize) -> u8) -> Line {
-    let q = request(full(sampling, 6, 0.25, 0.5), SIDE as u32, SIDE as u32, TIGHT);
+fn line(
+    side: usize, sampling: u32, down: bool, y: impl Fn(usize) -> u8, u: impl Fn(usize) -> u8,
+) -> (Vec<f64>, Vec<f64>) {
+    let q = request(full(sampling, 6, 0.25, 0.5), side as u32, side as u32, TIGHT);
     let plane = |extent: Extent, of: &dyn Fn(usize) -> u8| {
-        let place =
-            |i: usize| if down { i / extent.stride as usize } else { i % extent.stride as usize };
-        (0..extent.len).map(|i| of(place(i))).collect()
+        let stride = extent.stride as usize;
+        (0..extent.len).map(|i| of(if down { i / stride } else { i % stride })).collect()
     };
     let rgb = both(&q, &[plane(q.y, &y), plane(q.u, &u), vec![128; q.v.len]]);
-    let pixel = |i: usize| &rgb[3 * if down { i * SIDE + 8 } else { 8 * SIDE + i }..];
-    let letters = (0..SIDE).map(|i| (f64::from(pixel(i)[0]), f64::from(pixel(i)[2])));
+    let pixel = |i: usize| &rgb[3 * if down { i * side + 8 } else { 8 * side + i }..];
+    let letters = (0..side).map(|i| (f64::from(pixel(i)[0]), f64::from(pixel(i)[2])));
     letters.map(|(red, blue)| (red, blue - red + 128.0)).unzip()
 }
 
-type Line = (Vec<f64>, Vec<f64>);
-
 /// Kept: where chroma lies. Sample k of a ramp is 16 + 4k, so a pixel's Cb tells the k, a fraction,
-/// that it took. The last two pixels, which have no sample after their own, stand apart.
+/// that it took. The last pixels, which have no sample after their own, stand apart.
 fn chroma_ramps() {
-    println!("chroma ramps, pixels 0 to 29 of {SIDE}");
-    for (sampling, down, step) in [(0, false, 2.0), (0, true, 2.0), (1, false, 2.0), (1, true, 1.0)]
-    {
-        let (_, cb) = line(sampling, down, |_| 128, |k| 16 + 4 * k as u8);
-        let k = |x: usize| (cb[x] - 16.0) / 4.0;
-        let mut places: Vec<f64> = (0..30).map(|x| x as f64 - step * k(x)).collect();
+    println!("chroma ramps, pixels 0 to 29");
+    let kinds = [(0, false, 2.0), (0, true, 2.0), (1, false, 2.0), (1, true, 1.0)];
+    for (side, (sampling, down, step)) in [32, 31].iter().flat_map(|s| kinds.map(|k| (*s, k))) {
+        let (_, cb) = line(side, sampling, down, |_| 128, |k| 16 + 4 * k as u8);
+        let taken: Vec<f64> = cb.iter().map(|cb| (cb - 16.0) / 4.0).collect();
+        let mut places: Vec<f64> = (0..30).map(|x| x as f64 - step * taken[x]).collect();
         places.dedup();
-        let name = format!("4:2:{}, {}", 2 * sampling, if down { "rows" } else { "columns" });
+        let name =
+            format!("4:2:{}, {side} {}", 2 * sampling, if down { "rows" } else { "columns" });
         println!(
-            "  {name}: sample k lies at {step}k plus {places:?}; k of the last {:?}",
-            [k(30), k(31)]
+            "  {name}: sample k lies at {step}k plus {places:?}; the last take {:?}",
+            &taken[30..]
         );
         if step == 2.0 {
             let moved = |siting: f64| places.iter().map(|place| place - siting).collect::<Vec<_>>();
@@ -151,7 +149,7 @@ fn chroma_edges() {
     for (name, sampling, down) in
         [("4:2:0, columns", 0, false), ("4:2:0, rows", 0, true), ("4:2:2, columns", 1, false)]
     {
-        let (y, cb) = line(sampling, down, |x| [60, 180][x / 16], |k| [100, 140][k / 8]);
+        let (y, cb) = line(32, sampling, down, |x| [60, 180][x / 16], |k| [100, 140][k / 8]);
         println!("  {name}: Y halfway at {}, Cb at {}", halfway(&y, 120.0), halfway(&cb, 120.0));
         println!("    Y  of 12 to 17: {:?}", &y[12..18]);
         println!("    Cb of 12 to 17: {:?}", &cb[12..18]);
