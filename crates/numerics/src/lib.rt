@@ -8,7 +8,7 @@ ghost use Rattle.yuv_support.specs.Blend.{rounded};
 ghost use Rattle.numerics.specs.Kernel.{shifted, outerOf, innerOf, firstOf, greenOf, thirdOf, Bytes, Words};
 
 // The coefficients of a pixel's letters, with the biases, the rounding and the offset folded into one constant for each letter.
-// half is 8, half of a sixteenth: a number of run time, so that the compiler keeps a blended u16 sample in 16 bits.
+// half is 8, half of sixteen sixteenths: a number of run time, so that the compiler keeps a blended u16 sample in 16 bits.
 pub struct Kernel {
     pub offset: u32,
     pub max: u16,

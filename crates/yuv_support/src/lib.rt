@@ -1,5 +1,6 @@
 // The settings of a conversion as types: range, matrix, sampling and channel order, the two weights, the five coefficients.
-// Codes are decoded here and nowhere else. Every definition of document 01 stands in specs/, one module to a subject.
+// Codes are decoded here and nowhere else. The definitions of a conversion stand in specs/, one module to a subject; those of the answers'
+// numbers, the settings used, the readers and the sheet in the specs of their own crates.
 ghost use mathlib.Core.Path.{_≡_};
 ghost use Prim.Native.Nat.{_-_, _^_, _<_, _≤_};
 ghost use lib.Dec.{T};
