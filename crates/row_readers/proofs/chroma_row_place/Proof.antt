@@ -1,6 +1,7 @@
 -- `row_readers::chroma_row_place` meets its contract. On a "no" nothing depends on start and length (`refused-place`).
 -- Assumes nothing.
 use borrow.Author.Needs.{needs}
+use native.Mathlib.Omega.{arith}
 use borrow.Author.Tests.{not-true, not-false}
 use mathlib.Core.Path.{_≡_, sym, _∙_}
 use Rattle.yuv_support.specs.Questions.{extent}
@@ -35,7 +36,7 @@ sampling-of-requires : tie.Need-sampling-of-requires
 sampling-of-requires c κs = search needs
 
 near-row-requires : tie.Need-near-row-requires
-near-row-requires c κs = chroma-row-held _ _ _ _ _ _ _ _ _ (number (c .before)) .row-below
+near-row-requires c κs = omega (arith, chroma-row-held _ _ _ _ _ _ _ _ _ (number (c .before)) .row-below)
 
 wanted-stride-requires : tie.Need-wanted-stride-requires
 wanted-stride-requires c κs = search needs
