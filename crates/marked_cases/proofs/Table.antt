@@ -9,8 +9,8 @@ use Rattle.yuv_support.specs.Component.{step, sumOf, quotientOf, componentOf}
 use Rattle.yuv_support.specs.Picture.{lettersOf, channelsOf}
 use Rattle.yuv_support.specs.Questions.{verdict, questionsOf, settingsQuestions}
 use Rattle.settings_used.specs.Used.{settingsUsedOf}
-use Rattle.sheet_text.proofs.Examples.{marked-sheet}
 use Rattle.marked_cases.specs.Marked.{Marked}
+use Rattle.marked_cases.proofs.Sheet.{marked-sheet}
 
 pub marked : Marked
 unfolding maxOf biasY biasC rangeY rangeC weightR weightB weightG weightsOf

@@ -20,8 +20,8 @@ use Rattle.yuv_support.specs.Blend.{Chroma, Cb, Cr, one, two, left, right, tail
 use Rattle.yuv_support.specs.Component.{R, G, B, componentOf}
 use Rattle.yuv_support.specs.Questions.{Verdict, accepted, refused, verdict, Request, extent, conversionQuestions}
 use Rattle.sheet_text.specs.Sheet.{sheetOf}
-use Rattle.sheet_text.proofs.Examples.{markedInput, markedOutput}
 use Rattle.settings_used.specs.Used.{refusal, settingsUsedOf}
+use Rattle.marked_cases.specs.Sheet.{markedInput, markedOutput}
 
 -- the settings of a depth, a range and a matrix; sampling and order have no part in a component
 abbrev pub setting : ℕ → YuvRange → YuvStandardMatrix → Settings

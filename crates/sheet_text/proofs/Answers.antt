@@ -12,49 +12,39 @@ use lib.Seq.{sets}
 use Rattle.yuv_support.specs.Settings.{among, depths}
 use Rattle.yuv_support.specs.Questions.{ask, verdict, decoded, codesKnown}
 use Rattle.yuv_support.proofs.Tests.{passed}
-use Rattle.sheet_text.specs.declared.Values.{Values}
-use Rattle.sheet_text.specs.Text.{Wrote}
-use Rattle.sheet_text.specs.Numbers.{byteAt, numberAt, begin, areLines}
+use Rattle.sheet_writing.specs.Text.{Wrote}
+use Rattle.sheet_numbers.specs.Numbers.{byteAt, numberAt, begin, areLines}
+use Rattle.sheet_numbers.proofs.OneNumber.{inside}
+use Rattle.sheet_numbers.proofs.ManyNumbers.{all-below}
+use Rattle.sheet_numbers.proofs.Lined.{Lined, number-read, lines-most}
+use Rattle.sheet_values.specs.declared.Values.{Values}
+use Rattle.sheet_values.specs.Values.{codesOf, lumaCount, widest, isSmall, valuesIn}
+use Rattle.sheet_values.proofs.Sizes.{small-sides, luma-count-most, chroma-count-most}
+use Rattle.sheet_table.specs.Table.{table}
+use Rattle.sheet_picture.specs.Samples.{Fit, Samples, planesFrame}
 use Rattle.sheet_text.specs.Sheet.{
   names,
   hasName,
   hasNames,
   hasValues,
   valuesOf,
-  codesOf,
-  lumaCount,
   lumaBegin,
-  widest,
-  isSmall,
   hasPlanes,
   isWhole,
   restFormed,
   sheetFrame,
   sheetQuestions,
   refusal,
-  table,
   sheetOf,
 }
-use Rattle.sheet_text.specs.Shown.{Fit, Samples, planesFrame}
-use Rattle.sheet_text.specs.Answer.{AfterValues, Planes, valuesIn, restText, valuesText}
-use Rattle.sheet_text.proofs.Sizes.{luma-count-most, chroma-count-most}
-use Rattle.sheet_text.proofs.OneNumber.{inside}
-use Rattle.sheet_text.proofs.ManyNumbers.{all-below}
-use Rattle.sheet_text.proofs.PlaneLines.{Lined, Answered, number-read, lines-most}
+use Rattle.sheet_text.specs.Answer.{AfterValues, Planes, restText, valuesText}
+use Rattle.sheet_text.proofs.PlaneLines.{Answered}
 
 -- ---- question 15 of the rest
 
 pub not-small : (s : List ℕ) (v : Values) → isSmall v ≡ false → restText s v ≡ refusal 15
 unfolding restFormed
 not-small s v e = rw e
-
-pub small-sides : (v : Values) → isSmall v ≡ true → (1 ≤ v .width) × (v .width ≤ 64) × (1 ≤ v .height) × (v .height ≤ 64) × (v .matrix ≤ 5)
-small-sides v e =
-    let a = and-eq-true-iff (leb 1 (v .width) && leb (v .width) 64 && leb 1 (v .height) && leb (v .height) 64) _ .0 e in
-    let b = and-eq-true-iff (leb 1 (v .width) && leb (v .width) 64 && leb 1 (v .height)) _ .0 (a .0) in
-    let c = and-eq-true-iff (leb 1 (v .width) && leb (v .width) 64) _ .0 (b .0) in
-    let d = and-eq-true-iff (leb 1 (v .width)) _ .0 (c .0) in
-    (leb-true _ _ (d .0), leb-true _ _ (d .1), leb-true _ _ (c .1), leb-true _ _ (b .1), leb-true _ _ (a .1))
 
 pub small-fits : {v : Values} → isSmall v ≡ true → v .sampling ≤ 1 → T (codesKnown (among (v .depth) depths) (codesOf v) .holds) → Fit depths v
 small-fits {v} e hs k =
@@ -102,9 +92,9 @@ module _ {s : List ℕ} {v : Values} {r : Bool} {y u w : List ℕ} (small : isSm
       let n = luma-count-most v (t .1) (t .3) in
       let m = chroma-count-most v (t .1) (t .3) in
       record {
-        luma = lines-most _ _ _ (omega arith) (c .0) (p .luma);
-        cb = lines-most _ _ _ (omega arith) (c .1) (p .cb);
-        cr = lines-most _ _ _ (omega arith) (b .1) (p .cr);
+        luma = record { long = omega arith; most = lines-most _ _ _ _ _ (c .0) (p .luma) };
+        cb = record { long = omega arith; most = lines-most _ _ _ _ _ (c .1) (p .cb) };
+        cr = record { long = omega arith; most = lines-most _ _ _ _ _ (b .1) (p .cr) };
       }
 
 -- ---- questions 1 and 2

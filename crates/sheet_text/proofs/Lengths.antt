@@ -1,4 +1,4 @@
--- No sheet is longer than the output: a line takes at most 30 bytes, so a table of 64 rows of 64 pixels takes at most 122,897.
+-- No sheet is longer than the output: a refusal is short, and so is the table of a small picture (`table-length`).
 -- Assumes nothing.
 use mathlib.Core.Path.{_≡_, refl, ap, _∙_}
 use mathlib.Core.Bool.{Bool, true, false, cond, _&&_, and-eq-true-iff}
@@ -8,48 +8,22 @@ use native.Mathlib.Omega.{arith}
 use lib.Dec.{leb}
 use lib.ListN.{length, length-append}
 use lib.Seq.{sets, length-sets}
-use Rattle.yuv_support.specs.declared.Settings.{Settings}
 use Rattle.yuv_support.specs.Settings.{among, depths}
-use Rattle.yuv_support.specs.Blend.{Frame}
 use Rattle.yuv_support.specs.Questions.{decoded, codesKnown}
-use Rattle.sheet_text.specs.declared.Values.{Values}
-use Rattle.sheet_text.specs.Sheet.{
-  hasNames,
-  valuesOf,
-  codesOf,
-  isSmall,
-  hasPlanes,
-  isWhole,
-  restFormed,
-  sheetFrame,
-  heading,
-  refused,
-  refusal,
-  pixelLine,
-  rowText,
-  rowsText,
-  table,
-  sheetOf,
-}
-use Rattle.sheet_text.specs.Text.{numberText}
-use Rattle.sheet_text.specs.Numbers.{areLines}
+use Rattle.sheet_writing.specs.Text.{numberText}
+use Rattle.sheet_writing.proofs.Write.{number-text-length}
+use Rattle.sheet_numbers.specs.Numbers.{areLines}
+use Rattle.sheet_values.specs.declared.Values.{Values}
+use Rattle.sheet_values.specs.Values.{codesOf, isSmall}
+use Rattle.sheet_values.proofs.Sizes.{small-sides}
+use Rattle.sheet_table.proofs.Shown.{table-length}
+use Rattle.sheet_text.specs.Sheet.{hasNames, valuesOf, hasPlanes, isWhole, restFormed, sheetFrame, refused, refusal, sheetOf}
 use Rattle.sheet_text.specs.Answer.{restText, valuesText}
-use Rattle.sheet_text.proofs.Write.{number-text-length, joined-length}
-use Rattle.sheet_text.proofs.Shown.{pixel-text-length}
-use Rattle.sheet_text.proofs.Answers.{small-sides, names-missed, values-missed, lines-formed}
+use Rattle.sheet_text.proofs.Answers.{names-missed, values-missed, lines-formed}
 
 refusal-length : (n : ℕ) → length (refusal n) ≤ 131072
 unfolding refusal
 refusal-length n = let l = length-append refused (numberText n 10) in omega (arith, number-text-length n 10)
-
-table-length : (s : Settings) (f : Frame) → f .width ≤ 64 → f .height ≤ 64 → length (table s f) ≤ 131072
-unfolding table
-table-length s f hw hh =
-    let row : (r : ℕ) → length (rowText s f r (f .width)) ≤ 1920 =
-    λ r. let l = joined-length (pixelLine s f r) 30 (f .width) (λ c. pixel-text-length r c _ _ _) in omega arith in
-    let rows = joined-length (λ r. rowText s f r (f .width)) 1920 (f .height) row in
-    let l = length-append heading (rowsText s f (f .height)) in
-    omega arith
 
 formed-small : (s : List ℕ) (v : Values) → restFormed s v ≡ true → isSmall v ≡ true
 unfolding restFormed

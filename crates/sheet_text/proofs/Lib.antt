@@ -1,11 +1,3 @@
-pub mod Examples
-pub mod Write
-pub mod OneNumber
-pub mod ManyNumbers
-pub mod Shown
-pub mod Copy
-pub mod Sizes
-pub mod Converted
 pub mod PlaneLines
 pub mod Answers
 pub mod Lengths

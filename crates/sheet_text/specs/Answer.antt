@@ -5,12 +5,14 @@ use mathlib.Core.Bool.{cond}
 use mathlib.Core.List.{List}
 use Prim.Native.Nat.{ℕ, _≤_}
 use lib.Dec.{leb}
-use lib.ListN.{length, take, getD}
+use lib.ListN.{length, take}
 use Rattle.yuv_support.specs.Settings.{among, depths}
 use Rattle.yuv_support.specs.Questions.{decoded, codesKnown}
-use Rattle.sheet_text.specs.declared.Values.{Values}
-use Rattle.sheet_text.specs.Numbers.{numbersFrom}
-use Rattle.sheet_text.specs.Sheet.{codesOf, lumaCount, chromaCount, lumaBegin, uBegin, vBegin, restFormed, sheetFrame, refusal, table}
+use Rattle.sheet_numbers.specs.Numbers.{numbersFrom}
+use Rattle.sheet_values.specs.declared.Values.{Values}
+use Rattle.sheet_values.specs.Values.{codesOf, lumaCount, chromaCount}
+use Rattle.sheet_table.specs.Table.{table}
+use Rattle.sheet_text.specs.Sheet.{lumaBegin, uBegin, vBegin, restFormed, sheetFrame, refusal}
 
 -- the first two lines are read: `at` is the place after them
 pub record AfterValues (s : List ℕ) (at : ℕ) : Type 0 where
@@ -32,17 +34,6 @@ pub record PlanesRead (s : List ℕ) (v : Values) (y u w : List ℕ) : Type 0 wh
   pub luma : take (lumaCount v) y ≡ numbersFrom s (lumaBegin s) (lumaCount v)
   pub cb : take (chromaCount v) u ≡ numbersFrom s (uBegin s v) (chromaCount v)
   pub cr : take (chromaCount v) w ≡ numbersFrom s (vBegin s v) (chromaCount v)
-
-abbrev pub valuesIn : List ℕ → Values
-valuesIn numbers = record {
-  depth = getD numbers 0 0;
-  sampling = getD numbers 1 0;
-  order = getD numbers 2 0;
-  range = getD numbers 3 0;
-  matrix = getD numbers 4 0;
-  width = getD numbers 5 0;
-  height = getD numbers 6 0;
-}
 
 -- what is printed where questions 1 and 2 are answered, and where the first two lines are well formed
 abbrev pub restText : List ℕ → Values → List ℕ

@@ -1,21 +1,23 @@
 -- Document 01, "Sheet program": the output of `sheet`, from its input.
+-- Parts of it stand beside the functions that make them:
+--   sheet_numbers/specs/Numbers.antt   numbers and lines, as they are read
+--   sheet_values/specs/Values.antt     what the seven values of the second line stand for, and the part of question 15 that asks about them
+--   sheet_table/specs/Table.antt       the heading and the lines of the pixels
+--   sheet_writing/specs/Text.antt      decimal numbers, as they are written
 -- Definitions only.
-use Prim.Native.Nat.{ℕ, _+_, _*_}
+use Prim.Native.Nat.{ℕ}
 use mathlib.Core.Bool.{Bool, cond, _&&_}
 use mathlib.Core.List.{List, [], _∷_, _++_}
 use lib.Dec.{eqb, leb}
-use lib.Ieee.{Float, binary32, ofBits}
 use lib.ListN.{length}
-use Rattle.yuv_support.specs.declared.Codes.{Codes}
-use Rattle.yuv_support.specs.declared.Settings.{Settings}
-use Rattle.yuv_support.specs.declared.YuvPlanarImage.{YuvPlanarImage}
-use Rattle.yuv_support.specs.Settings.{samplingOf, among, depths}
-use Rattle.yuv_support.specs.Blend.{Frame, frameOf, chromaWidth, chromaHeight}
-use Rattle.yuv_support.specs.Component.{R, G, B, componentAt}
+use Rattle.yuv_support.specs.Settings.{among, depths}
+use Rattle.yuv_support.specs.Blend.{Frame, frameOf, chromaWidth}
 use Rattle.yuv_support.specs.Questions.{Question, ask, verdict, decoded, samplingKnown, codesKnown}
-use Rattle.sheet_text.specs.declared.Values.{Values}
-use Rattle.sheet_text.specs.Text.{joined, numberText}
-use Rattle.sheet_text.specs.Numbers.{byteAt, numberAt, allBelow, begin, areLines, numbersFrom}
+use Rattle.sheet_writing.specs.Text.{numberText}
+use Rattle.sheet_numbers.specs.Numbers.{byteAt, numberAt, allBelow, begin, areLines, numbersFrom}
+use Rattle.sheet_values.specs.declared.Values.{Values}
+use Rattle.sheet_values.specs.Values.{codesOf, imageOf, lumaCount, chromaCount, widest, isSmall}
+use Rattle.sheet_table.specs.Table.{table}
 
 -- ---- fixed lines
 
@@ -29,13 +31,6 @@ names =
     ∷ 109 ∷ 97 ∷ 116 ∷ 114 ∷ 105 ∷ 120 ∷ 32
     ∷ 119 ∷ 105 ∷ 100 ∷ 116 ∷ 104 ∷ 32
     ∷ 104 ∷ 101 ∷ 105 ∷ 103 ∷ 104 ∷ 116 ∷ 10 ∷ []
-
--- "row column r g b" and byte 10
-abbrev pub heading : List ℕ
-heading =
-    114 ∷ 111 ∷ 119 ∷ 32
-    ∷ 99 ∷ 111 ∷ 108 ∷ 117 ∷ 109 ∷ 110 ∷ 32
-    ∷ 114 ∷ 32 ∷ 103 ∷ 32 ∷ 98 ∷ 10 ∷ []
 
 -- "refused" and a space
 abbrev pub refused : List ℕ
@@ -68,39 +63,7 @@ valuesOf s = record {
   height = value s 6;
 }
 
--- the codes that the values are; no weights, for no value is Custom's
-abbrev pub noWeight : Float
-noWeight = ofBits binary32 0
-
-abbrev pub codesOf : Values → Codes
-codesOf v = record {
-  depth = v .depth;
-  sampling = v .sampling;
-  order = v .order;
-  range = v .range;
-  matrix = v .matrix;
-  kr = noWeight;
-  kb = noWeight;
-}
-
--- rows follow each other closely, so the strides are the widths
-abbrev pub imageOf : Values → YuvPlanarImage
-imageOf v = record {
-  width = v .width;
-  height = v .height;
-  «y_stride» = v .width;
-  «u_stride» = chromaWidth (v .width);
-  «v_stride» = chromaWidth (v .width);
-}
-
 -- ---- the rest: all of Y, then all of U, then all of V
-
--- the samples of luma, and of one chroma plane
-abbrev pub lumaCount : Values → ℕ
-lumaCount v = v .width * v .height
-
-abbrev pub chromaCount : Values → ℕ
-chromaCount v = chromaWidth (v .width) * chromaHeight (samplingOf (v .sampling)) (v .height)
 
 -- where each plane begins, and where the last one ends
 abbrev pub lumaBegin : List ℕ → ℕ
@@ -114,14 +77,6 @@ vBegin s v = begin s (uBegin s v) (chromaCount v)
 
 abbrev pub sheetEnd : List ℕ → Values → ℕ
 sheetEnd s v = begin s (vBegin s v) (chromaCount v)
-
--- the largest sample of the element's width: a byte at depth 8, else a u16
-abbrev pub widest : Values → ℕ
-widest v = cond (eqb (v .depth) 8) 255 65535
-
--- sides 1 to 64, matrix at most 5
-abbrev pub isSmall : Values → Bool
-isSmall v = leb 1 (v .width) && leb (v .width) 64 && leb 1 (v .height) && leb (v .height) 64 && leb (v .matrix) 5
 
 -- a line per row, samples within the element's width
 abbrev pub hasPlanes : List ℕ → Values → Bool
@@ -158,25 +113,6 @@ sheetQuestions s v =
 
 unfoldable pub refusal : ℕ → List ℕ
 refusal number = refused ++ numberText number 10
-
--- row, column, red, green, blue
-unfoldable pub pixelText : ℕ → ℕ → ℕ → ℕ → ℕ → List ℕ
-pixelText row column r g b =
-    numberText row 32 ++ numberText column 32 ++ numberText r 32 ++ numberText g 32 ++ numberText b 10
-
-abbrev pub pixelLine : Settings → Frame → ℕ → ℕ → List ℕ
-pixelLine s f row column =
-    pixelText row column (componentAt s f R row column) (componentAt s f G row column) (componentAt s f B row column)
-
--- the lines of n pixels of a row, and of n rows
-abbrev pub rowText : Settings → Frame → ℕ → ℕ → List ℕ
-rowText s f row n = joined (pixelLine s f row) n
-
-abbrev pub rowsText : Settings → Frame → ℕ → List ℕ
-rowsText s f n = joined (λ row. rowText s f row (f .width)) n
-
-unfoldable pub table : Settings → Frame → List ℕ
-table s f = heading ++ rowsText s f (f .height)
 
 unfoldable pub sheetOf : List ℕ → List ℕ
 sheetOf s =

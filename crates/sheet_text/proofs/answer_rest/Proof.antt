@@ -1,7 +1,7 @@
 -- `sheet_text::answer_rest` meets its contract: the refusal where a side, the matrix or the planes fail question 15, and else the table.
 -- Assumes nothing.
 use Rattle.sheet_text.proofs.Answers.{not-small, not-whole, rest-table, small-asks, small-fits, planes-samples}
-use Rattle.sheet_text.specs.Sheet.{isSmall}
+use Rattle.sheet_values.specs.Values.{isSmall}
 use lib.ListN.{length-replicate}
 use borrow.Author.Tests.{not-true, not-false}
 use Prim.Native.Nat.{ℕ}
@@ -36,24 +36,24 @@ slice-aggregate-read-planes-3 c = search needs
 read-planes-requires : tie.Need-read-planes-requires
 read-planes-requires c κs = let zeros = length-replicate {A = ℕ} 4096 0 in small-asks (c .before .before .before .before .before .before .pre .0) (small (c .before .before .before)) zeros zeros zeros
 
-slice-aggregate-put-sheet : tie.Need-slice-aggregate-put-sheet
-slice-aggregate-put-sheet c = search needs
+slice-aggregate-put-picture : tie.Need-slice-aggregate-put-picture
+slice-aggregate-put-picture c = search needs
 
-slice-aggregate-put-sheet-2 : tie.Need-slice-aggregate-put-sheet-2
-slice-aggregate-put-sheet-2 c = search needs
+slice-aggregate-put-picture-2 : tie.Need-slice-aggregate-put-picture-2
+slice-aggregate-put-picture-2 c = search needs
 
-slice-aggregate-put-sheet-3 : tie.Need-slice-aggregate-put-sheet-3
-slice-aggregate-put-sheet-3 c = search needs
+slice-aggregate-put-picture-3 : tie.Need-slice-aggregate-put-picture-3
+slice-aggregate-put-picture-3 c = search needs
 
-put-sheet-requires : tie.Need-put-sheet-requires
-put-sheet-requires c κs =
+put-picture-requires : tie.Need-put-picture-requires
+put-picture-requires c κs =
     let start = c .before .before .before .before .before .before .before .before .before .before .before .before .before .before .before in
     let read = c .before .before .before .before .before .before .before .before .read-planes in
     let kept = read .kept .1 .1 .1 in
     (small-fits (small (c .before .before .before .before .before .before .before .before .before .before .before .before)) (start .pre .1) (start .pre .2), planes-samples (small (c .before .before .before .before .before .before .before .before .before .before .before .before)) (read .ensures) (c .before .before .before .before .if2 .taken) (kept .0) (kept .1 .0) (kept .1 .1 .0))
 
 returns-2 : tie.Need-returns-2
-returns-2 c = rw (rest-table (small (c .before .before .before .before .before .before .before .before .before .before .before .before .before)) (c .before .before .before .before .before .before .before .before .before .read-planes .ensures) (c .before .before .before .before .before .if2 .taken)) (c .put-sheet .ensures)
+returns-2 c = rw (rest-table (small (c .before .before .before .before .before .before .before .before .before .before .before .before .before)) (c .before .before .before .before .before .before .before .before .before .read-planes .ensures) (c .before .before .before .before .before .if2 .taken)) (c .put-picture .ensures)
 
 put-refusal-requires-2 : tie.Need-put-refusal-requires-2
 put-refusal-requires-2 c κs = search needs
@@ -72,10 +72,10 @@ answer-rest-spec =
     slice-aggregate-read-planes-2
     slice-aggregate-read-planes-3
     read-planes-requires
-    slice-aggregate-put-sheet
-    slice-aggregate-put-sheet-2
-    slice-aggregate-put-sheet-3
-    put-sheet-requires
+    slice-aggregate-put-picture
+    slice-aggregate-put-picture-2
+    slice-aggregate-put-picture-3
+    put-picture-requires
     returns-2
     put-refusal-requires-2
     returns-3)

@@ -1,6 +1,6 @@
 -- `sheet_text::put_refusal` meets its contract: the word, and after it the number.
 -- Assumes nothing.
-use Rattle.sheet_text.proofs.Write.{wrote-then}
+use Rattle.sheet_writing.proofs.Write.{wrote-then}
 use Rattle.sheet_text.specs.Sheet.{refusal}
 use borrow.Author.Needs.{needs}
 use Rattle.sheet_text.proofs.put_refusal.Statement.{statement}

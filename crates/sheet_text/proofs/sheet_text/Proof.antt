@@ -2,7 +2,7 @@
 -- else the refusal of question 15.
 -- Assumes nothing.
 use Rattle.sheet_text.proofs.Answers.{names-missed, values-missed, lines-formed, names-length, values-read, wrote-whole}
-use Rattle.sheet_text.proofs.PlaneLines.{Lined, lines-malformed, lined}
+use Rattle.sheet_numbers.proofs.Lined.{Lined, lines-malformed, lined}
 use Rattle.sheet_text.specs.Sheet.{hasNames}
 use lib.Dec.{lit<, lit≤}
 use borrow.Author.Tests.{not-true, not-false}
@@ -35,19 +35,14 @@ slice-aggregate-read-lines c = search needs
 read-lines-requires : tie.Need-read-lines-requires
 read-lines-requires c κs = (names-length _ (named (c .before)), lit< tt, lit≤ tt, lit≤ tt)
 
-enum-known-line : tie.Need-enum-known-line
-enum-known-line c = search needs
-
 enum-told : tie.Need-enum-told
 enum-told c = search needs
 
 put-refusal-requires-2 : tie.Need-put-refusal-requires-2
 put-refusal-requires-2 c κs = search needs
 
-returns-2 : tie.Need-returns-2
-returns-2 c =
-    wrote-whole _ (values-missed _ (named (c .before .before .before .before .before .before .before)) (lines-malformed _ 47 7 99999 7 (c .before .before .before .before .before .read-lines .ensures .0) (c .before .before .enum-told .given .1)))
-    (c .put-refusal2 .ensures)
+enum-known-line : tie.Need-enum-known-line
+enum-known-line c = search needs
 
 values-of-requires : tie.Need-values-of-requires
 values-of-requires c κs = search needs
@@ -55,10 +50,15 @@ values-of-requires c κs = search needs
 answer-values-requires : tie.Need-answer-values-requires
 answer-values-requires c κs = let l = values-lined (c .before .before .before .before) in record { place = l .end; within = l .within }
 
+returns-2 : tie.Need-returns-2
+returns-2 c =
+    wrote-whole _ (values-missed _ (named (c .before .before .before .before .before .before .before)) (lines-malformed _ 47 7 99999 7 (c .before .before .before .before .before .read-lines .ensures .0) (c .before .before .enum-told .given .1)))
+    (c .put-refusal2 .ensures)
+
 returns-3 : tie.Need-returns-3
 returns-3 c =
     let l = values-lined (c .before .before .before .before .before) in
-    let v = c .before .before .values-of .ensures ∙ values-read l in
+    let v = c .before .values-of .ensures ∙ values-read l in
     wrote-whole _ (lines-formed _ (named (c .before .before .before .before .before .before .before .before .before .before)) (l .formed)) (rw v at (c .answer-values .ensures))
 
 pub sheet-text-spec : {M : Type 1} → statement M
@@ -70,10 +70,10 @@ sheet-text-spec =
     returns
     slice-aggregate-read-lines
     read-lines-requires
-    enum-known-line
     enum-told
     put-refusal-requires-2
-    returns-2
+    enum-known-line
     values-of-requires
     answer-values-requires
+    returns-2
     returns-3)

@@ -1,0 +1,3 @@
+pub mod OneNumber
+pub mod ManyNumbers
+pub mod Lined
