@@ -151,6 +151,6 @@ values-read {s} {numbers} l = rw (at 0 (lit< tt), at 1 (lit< tt), at 2 (lit< tt)
 
 -- ---- the whole output
 
-pub wrote-whole : {old new : List ℕ} {next : ℕ} (text : List ℕ) {written : List ℕ} → text ≡ written → Wrote old 0 written new next
+pub wrote-whole : {old new : List ℕ} {next : ℕ} {text written : List ℕ} → Wrote old 0 written new next → text ≡ written
     → (next ≡ length text) × (new ≡ sets old 0 text)
-wrote-whole {old} {new} {next} text {written} e w = rw e ((let p = w .place in omega arith, w .bytes))
+wrote-whole {old} {new} {next} {text} {written} w e = rw e ((let p = w .place in omega arith, w .bytes))

@@ -7,6 +7,7 @@ use mathlib.Core.List.{List, [], _∷_, _++_}
 use Prim.Native.Nat.{ℕ, zero, suc, _+_, _*_, _/_, _%_, _≤_, _<_}
 use native.Mathlib.Nat.{add-zero, mul-le-mul-left, mul-suc}
 use native.Mathlib.Omega.{arith}
+use borrow.Author.Tests.{le-leb, lt-leb}
 use lib.Dec.{leb}
 use lib.ListN.{length, length-append, set, take, getD}
 use lib.Seq.{sets, take-suc}
@@ -28,6 +29,16 @@ wrote-then {old} {at} {a} {b} {mid} {new} {next} {last} first second = record {
   place = let l = length-append a b in omega (arith, first .place, second .place);
   bytes = second .bytes ∙ rw (first .bytes, first .place) (sets-append old at a b);
 }
+
+-- a digit, or none where the number is below its power of ten
+pub wrote-digit : {power n : ℕ} {old new : List ℕ} {at next : ℕ} → Wrote old at ((48 + n / power % 10) ∷ []) new next → power ≤ n
+    → Wrote old at (leadingDigit power n) new next
+unfolding leadingDigit
+wrote-digit {power} {n} w h = rw (le-leb power n h) w
+
+pub wrote-no-digit : (power n : ℕ) (old : List ℕ) (at : ℕ) → n < power → Wrote old at (leadingDigit power n) old at
+unfolding leadingDigit
+wrote-no-digit power n old at h = rw (lt-leb power n h) (wrote-nothing old at)
 
 -- one byte more of a text that is copied
 pub wrote-one : {old : List ℕ} {at : ℕ} (text : List ℕ) {new : List ℕ} {i : ℕ} → Wrote old at (take i text) new (at + i) → i < length text

@@ -27,7 +27,7 @@ put-refusal-requires : tie.Need-put-refusal-requires
 put-refusal-requires c κs = search needs
 
 returns : tie.Need-returns
-returns c = wrote-whole _ (names-missed _ (sym (c .before .before .before .has-names .ensures) ∙ not-true _ (c .before .before .if1 .taken))) (c .put-refusal .ensures)
+returns c = wrote-whole (c .put-refusal .ensures) (names-missed _ (sym (c .before .before .before .has-names .ensures) ∙ not-true _ (c .before .before .if1 .taken)))
 
 slice-aggregate-read-lines : tie.Need-slice-aggregate-read-lines
 slice-aggregate-read-lines c = search needs
@@ -52,14 +52,14 @@ answer-values-requires c κs = let l = values-lined (c .before .before .before .
 
 returns-2 : tie.Need-returns-2
 returns-2 c =
-    wrote-whole _ (values-missed _ (named (c .before .before .before .before .before .before .before)) (lines-malformed _ 47 7 99999 7 (c .before .before .before .before .before .read-lines .ensures .0) (c .before .before .enum-told .given .1)))
-    (c .put-refusal2 .ensures)
+    wrote-whole (c .put-refusal2 .ensures)
+    (values-missed _ (named (c .before .before .before .before .before .before .before)) (lines-malformed _ 47 7 99999 7 (c .before .before .before .before .before .read-lines .ensures .0) (c .before .before .enum-told .given .1)))
 
 returns-3 : tie.Need-returns-3
 returns-3 c =
     let l = values-lined (c .before .before .before .before .before) in
     let v = c .before .values-of .ensures ∙ values-read l in
-    wrote-whole _ (lines-formed _ (named (c .before .before .before .before .before .before .before .before .before .before)) (l .formed)) (rw v at (c .answer-values .ensures))
+    wrote-whole (c .answer-values .ensures) (lines-formed _ (named (c .before .before .before .before .before .before .before .before .before .before)) (l .formed) ∙ rw v)
 
 pub sheet-text-spec : {M : Type 1} → statement M
 sheet-text-spec =

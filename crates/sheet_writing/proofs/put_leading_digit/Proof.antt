@@ -1,15 +1,12 @@
 -- `sheet_writing::put_leading_digit` meets its contract: the digit where the number reaches its power of ten, and else nothing.
 -- Assumes nothing.
-use Rattle.sheet_writing.proofs.Write.{wrote-nothing}
-use Rattle.sheet_writing.specs.Text.{leadingDigit}
-use borrow.Author.Tests.{lt-leb, le-leb}
+use Rattle.sheet_writing.proofs.Write.{wrote-digit, wrote-no-digit}
 use borrow.Author.Needs.{needs}
 use Rattle.sheet_writing.proofs.put_leading_digit.Statement.{statement}
 use Rattle.sheet_writing.proofs.put_leading_digit.Tie as tie
 
 returns : tie.Need-returns
-unfolding leadingDigit
-returns c = rw (lt-leb _ _ (c .if1 .taken)) (wrote-nothing (c .before .args .out .now) (c .before .args .at))
+returns c = let args = c .before .args in wrote-no-digit (args .power) (args .n) (args .out .now) (args .at) (c .if1 .taken)
 
 div-put-byte : tie.Need-div-put-byte
 div-put-byte c = search needs
@@ -24,8 +21,7 @@ put-byte-requires : tie.Need-put-byte-requires
 put-byte-requires c κs = search needs
 
 returns-2 : tie.Need-returns-2
-unfolding leadingDigit
-returns-2 c = rw (le-leb _ _ (c .before .before .if1 .left)) (c .put-byte .ensures)
+returns-2 c = wrote-digit (c .put-byte .ensures) (c .before .before .if1 .left)
 
 pub put-leading-digit-spec : {M : Type 1} → statement M
 put-leading-digit-spec =
