@@ -4,19 +4,19 @@ use mathlib.Core.Path.{_≡_, refl, sym, ap, _∙_}
 use mathlib.Core.Bool.{Bool, true, false, cond, and-eq-true-iff}
 use mathlib.Core.List.{List, [], _∷_, _++_}
 use mathlib.Core.Logic.{_⊎_, inl, inr}
-use Prim.Native.Nat.{ℕ, zero, suc, _≤_, _<_}
+use Prim.Native.Nat.{ℕ, zero, suc, _+_, _≤_, _<_}
 use native.Mathlib.Omega.{arith}
 use borrow.Author.Tests.{leb-true}
-use lib.ListN.{length, take, getD, length-append, List·getD-append}
-use lib.Seq.{getD-take, getD-at}
+use lib.ListN.{length, take, getD, List·getD-append}
+use lib.Seq.{sets, sets-eq, take-at, getD-take, getD-at}
 use Rattle.yuv_support.proofs.Overlay.{below-or-not}
 use Rattle.sheet_writing.specs.Text.{joined}
 use Rattle.sheet_numbers.specs.declared.Lines.{Lines}
 use Rattle.sheet_numbers.specs.declared.Lines.the-variants.{Until, Malformed}
 use Rattle.sheet_numbers.specs.Numbers.{numberAt, isNumber, allBelow, begin, ending, isItem, areLines, numbersFrom}
-use Rattle.sheet_numbers.specs.Read.{linesRead}
+use Rattle.sheet_numbers.specs.Read.{linesRead, LinesTaken}
 use Rattle.sheet_numbers.proofs.OneNumber.{past-within}
-use Rattle.sheet_numbers.proofs.ManyNumbers.{all-below, ending-positive}
+use Rattle.sheet_numbers.proofs.ManyNumbers.{all-below, holding-all, numbers-length, ending-positive}
 
 -- ---- where they end
 
@@ -41,11 +41,6 @@ lines-within s at width limit (suc n) h e =
     let q = and-eq-true-iff (isNumber s (begin s at n) (ending width n)) _ .0 (p .1) in
     past-within s (begin s at n) (ending width n) (ending-positive width n) (q .0)
 
--- what `read_lines` ensures
-abbrev pub Told : List ℕ → ℕ → ℕ → ℕ → ℕ → List ℕ → Lines → Type 0
-Told s at width limit n xs result =
-    (result ≡ linesRead s at width limit n) × (areLines s at width limit n ≡ true → take n xs ≡ numbersFrom s at n)
-
 -- n well-formed numbers from a place on, read into xs; `next` is the place after them
 pub record Lined (s : List ℕ) (at width limit n : ℕ) (xs : List ℕ) (next : ℕ) : Type 0 where
   pub formed : areLines s at width limit n ≡ true
@@ -53,15 +48,18 @@ pub record Lined (s : List ℕ) (at width limit n : ℕ) (xs : List ℕ) (next :
   pub within : next ≤ length s
   pub read : take n xs ≡ numbersFrom s at n
 
-pub lined : {s : List ℕ} {at width limit n : ℕ} {xs : List ℕ} {next : ℕ} {result : Lines} → at ≤ length s → Told s at width limit n xs result
-    → result ≡ Until next → Lined s at width limit n xs next
-lined {s} {at} {width} {limit} {n} {xs} {next} h e u =
-    let f = until (areLines s at width limit n) (begin s at n) next (sym (e .0) ∙ u) in
+pub lined : {s : List ℕ} {at width limit n : ℕ} {old xs : List ℕ} {next : ℕ} {result : Lines} → at ≤ length s → n ≤ length old
+    → LinesTaken s at width limit n old xs result → result ≡ Until next → Lined s at width limit n xs next
+lined {s} {at} {width} {limit} {n} {old} {xs} {next} h room t u =
+    let f = until (areLines s at width limit n) (begin s at n) next (sym (t .answer) ∙ u) in
+    let l = numbers-length s at n in
+    let e : xs ≡ sets old 0 (numbersFrom s at n) = t .numbers ∙ rw (holding-all (isItem s at width limit) n (f .0)) in
+    let k : 0 + length (numbersFrom s at n) ≤ length old = omega arith in
     record {
       formed = f .0;
       end = f .1;
       within = let w = lines-within s at width limit n h (f .0) in omega (arith, f .1);
-      read = e .1 (f .0);
+      read = ap (take n) (e ∙ sets-eq (numbersFrom s at n) old 0 k) ∙ take-at (numbersFrom s at n) _ n l;
     }
 
 -- the same with the arguments by their equations
@@ -70,14 +68,6 @@ pub lined-same : {s : List ℕ} {at at′ width limit limit′ n n′ : ℕ} {xs
 lined-same e₁ e₂ e₃ l = rw (← e₁, ← e₂, ← e₃) l
 
 -- ---- their numbers
-
-numbers-length : (s : List ℕ) (at n : ℕ) → length (numbersFrom s at n) ≡ n
-unfolding joined
-numbers-length s at zero = refl
-numbers-length s at (suc n) =
-    let l = length-append (numbersFrom s at n) (numberAt s (begin s at n) ∷ []) in
-    let i = numbers-length s at n in
-    omega arith
 
 -- number i of the list
 numbers-step : (f : ℕ → ℕ) (xs : List ℕ) (n i : ℕ) → length xs ≡ n → (i < n → getD xs i 0 ≡ f i) → (i < n) ⊎ (n ≤ i) → i < suc n

@@ -9,17 +9,17 @@ use Prim.Native.Nat.{ℕ, zero, suc, _+_, _%_, _≤_, _<_}
 use native.Mathlib.Omega.{arith}
 use borrow.Author.Tests.{le-leb, lt-leb}
 use lib.Dec.{eqb, lit<}
-use lib.ListN.{length, take, set, length-set}
-use lib.Seq.{take-suc-set}
+use lib.ListN.{length, length-append, set, length-set}
+use lib.Seq.{sets}
 use Rattle.yuv_support.proofs.Overlay.{below-or-not}
 use Rattle.sheet_numbers.specs.declared.Number.{Number}
 use Rattle.sheet_numbers.specs.declared.Number.the-variants.{Value, NoNumber}
 use Rattle.sheet_numbers.specs.declared.Lines.the-variants.{Until, Malformed}
 use Rattle.sheet_writing.specs.Text.{joined}
 use Rattle.sheet_numbers.specs.Numbers.{numberAt, past, isNumber, allBelow, begin, ending, isItem, areLines, numbersFrom}
-use Rattle.sheet_numbers.specs.Read.{numberRead, linesRead}
+use Rattle.sheet_numbers.specs.Read.{numberRead, holding, LinesTaken}
 use Rattle.sheet_numbers.proofs.OneNumber.{past-within}
-use Rattle.sheet_writing.proofs.Write.{joined-one}
+use Rattle.sheet_writing.proofs.Write.{sets-append, joined-one}
 
 -- ---- of every number below n
 
@@ -47,6 +47,21 @@ all-below p {n} {i} h e = go (p i) refl
     go true q = q
     go false q = let z : true ≡ false = sym e ∙ not-all p n h q in q ∙ sym z
 
+-- those before the first that fails
+pub holding-all : (p : ℕ → Bool) (n : ℕ) → allBelow p n ≡ true → holding p n ≡ n
+unfolding holding
+holding-all p zero e = refl
+holding-all p (suc n) e = rw e
+
+holding-first : (p : ℕ → Bool) (n : ℕ) {i : ℕ} → i < n → allBelow p i ≡ true → p i ≡ false → holding p n ≡ i
+unfolding holding
+holding-first p zero h a e = absurd (omega arith)
+holding-first p (suc n) {i} h a e = rw (not-all p (suc n) h e) (go (λ l. holding-first p n l a e) (below-or-not i n))
+  where
+    go : (i < n → holding p n ≡ i) → (i < n) ⊎ (n ≤ i) → holding p n ≡ i
+    go rest (inl l) = rest l
+    go rest (inr g) = let q : n ≡ i = omega arith in rw q (holding-all p i a)
+
 -- ---- what reading one number answers
 
 found : (t : Bool) (a b v n : ℕ) → cond t (Value a b) NoNumber ≡ Value v n → (t ≡ true) × (v ≡ a) × (n ≡ b)
@@ -66,13 +81,21 @@ ending-positive width i = go (eqb ((i + 1) % width) 0)
 
 -- ---- the loop over n numbers
 
+pub numbers-length : (s : List ℕ) (at n : ℕ) → length (numbersFrom s at n) ≡ n
+unfolding joined
+numbers-length s at zero = refl
+numbers-length s at (suc n) =
+    let l = length-append (numbersFrom s at n) (numberAt s (begin s at n) ∷ []) in
+    let i = numbers-length s at n in
+    omega arith
+
 pub record Reading (s : List ℕ) (at width limit n : ℕ) (numbers₀ numbers : List ℕ) (place i : ℕ) : Type 0 where
   pub most : i ≤ n
   pub kept : length numbers ≡ length numbers₀
   pub formed : areLines s at width limit i ≡ true
   pub begins : place ≡ begin s at i
   pub within : place ≤ length s
-  pub read : take i numbers ≡ numbersFrom s at i
+  pub wrote : numbers ≡ sets numbers₀ 0 (numbersFrom s at i)
 
 pub never : true ≡ false → ⊥
 never z = let y : _≡_ {A = ℕ} 0 1 = cc in omega arith
@@ -86,7 +109,7 @@ module _ {s : List ℕ} {at width limit n : ℕ} {numbers₀ : List ℕ} where
     formed = all-none (isItem s at width limit);
     begins = refl;
     within = h;
-    read = refl;
+    wrote = refl;
   }
 
   -- the next number, of which `result` is what reading it answers
@@ -107,35 +130,38 @@ module _ {s : List ℕ} {at width limit n : ℕ} {numbers₀ : List ℕ} where
           formed = all-one (isItem s at width limit) i (r .formed) item;
           begins = rw (e₁, p) (f .2);
           within = let w = past-within s place end (rw ends (ending-positive width i)) (f .0) in omega (arith, f .2);
-          read =
-              let c : take (i + 1) (set numbers i value) ≡ take i numbers ++ (value ∷ []) =
-              rw e₁ (take-suc-set numbers i value (omega (arith, r .kept))) in
-              c ∙ rw (r .read, ← v) (sym (joined-one (λ i. numberAt s (begin s at i) ∷ []) i));
+          wrote =
+              let l : 0 + length (numbersFrom s at i) ≡ i = omega (arith, numbers-length s at i) in
+              let c : sets (sets numbers₀ 0 (numbersFrom s at i)) i (value ∷ []) ≡ sets numbers₀ 0 (numbersFrom s at i ++ (value ∷ [])) =
+              rw l at (sets-append numbers₀ 0 (numbersFrom s at i) (value ∷ [])) in
+              rw (r .wrote) (c ∙ rw (← v, ← joined-one (λ i. numberAt s (begin s at i) ∷ []) i));
         }
 
     -- the answer where it is not well formed: it is missed, or above the limit
-    refused : {A : Type 0} → isItem s at width limit i ≡ false → (Malformed ≡ linesRead s at width limit n) × (areLines s at width limit n ≡ true → A)
+    refused : isItem s at width limit i ≡ false → LinesTaken s at width limit n numbers₀ numbers Malformed
     refused item =
-        let e = not-all (isItem s at width limit) n h item in
-        (rw e, λ t. absurd (never (sym t ∙ e)))
+        let f = holding-first (isItem s at width limit) n h (r .formed) item in
+        record { answer = rw (not-all (isItem s at width limit) n h item); numbers = rw f (r .wrote) }
 
-    pub reading-missed : {A : Type 0} → result ≡ NoNumber → (Malformed ≡ linesRead s at width limit n) × (areLines s at width limit n ≡ true → A)
+    pub reading-missed : result ≡ NoNumber → LinesTaken s at width limit n numbers₀ numbers Malformed
     unfolding isItem
     reading-missed e =
         let p : begin s at i ≡ place = sym (r .begins) in
         let m = missed (isNumber s place end) (numberAt s place) (past s place) (sym answer ∙ e) in
         refused (rw (p, ← ends, m))
 
-    pub reading-above : {A : Type 0} {value next : ℕ} → result ≡ Value value next → limit < value
-        → (Malformed ≡ linesRead s at width limit n) × (areLines s at width limit n ≡ true → A)
+    pub reading-above : {value next : ℕ} → result ≡ Value value next → limit < value → LinesTaken s at width limit n numbers₀ numbers Malformed
     unfolding isItem
-    reading-above {A} {value} {next} e large =
+    reading-above {value} {next} e large =
         let p : begin s at i ≡ place = sym (r .begins) in
         let f = found (isNumber s place end) (numberAt s place) (past s place) value next (sym answer ∙ e) in
         refused (rw (p, ← ends, f .0, ← f .1, lt-leb value limit large))
 
   pub reading-done : {numbers : List ℕ} {place i : ℕ} → Reading s at width limit n numbers₀ numbers place i → n ≤ i
-      → (Until place ≡ linesRead s at width limit n) × (areLines s at width limit n ≡ true → take n numbers ≡ numbersFrom s at n)
+      → LinesTaken s at width limit n numbers₀ numbers (Until place)
   reading-done {numbers} {place} {i} r h =
       let e : n ≡ i = omega (arith, r .most) in
-      (rw (e, r .formed, r .begins), λ t. rw e (r .read))
+      record {
+        answer = rw (e, r .formed, r .begins);
+        numbers = rw (e, holding-all (isItem s at width limit) i (r .formed)) (r .wrote);
+      }

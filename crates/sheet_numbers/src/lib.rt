@@ -1,10 +1,9 @@
 // The numbers and lines of a sheet's input: read from a list of bytes, place by place.
 ghost use mathlib.Core.Path.{_≡_};
-ghost use mathlib.Core.Bool.{true};
 ghost use Prim.Native.Nat.{_≤_, _<_};
-ghost use lib.ListN.{length, take};
-ghost use Rattle.sheet_numbers.specs.Numbers.{byteAt, isDigit, digitsAt, numberAt, ending, areLines, numbersFrom};
-ghost use Rattle.sheet_numbers.specs.Read.{beginsWith, numberRead, linesRead};
+ghost use lib.ListN.{length};
+ghost use Rattle.sheet_numbers.specs.Numbers.{byteAt, isDigit, digitsAt, numberAt, ending};
+ghost use Rattle.sheet_numbers.specs.Read.{beginsWith, numberRead, LinesTaken};
 
 // The digits of a number, and the number.
 struct Digits {
@@ -111,8 +110,7 @@ pub fn read_lines(
     numbers: &mut [u32],
 ) -> Lines
     requires { ⌜ (at ≤ length (now s)) × (0 < width) × (n ≤ 4096) × (n ≤ length (now numbers)) ⌝ }
-    ensures { λ r. ⌜ r ≡ linesRead (now (s .entry)) at width limit n ⌝ }
-    ensures { λ r. ⌜ (areLines (now (s .entry)) at width limit n ≡ true → take n (now (numbers .exit)) ≡ numbersFrom (now (s .entry)) at n) ⌝ }
+    ensures { λ r. ⌜ LinesTaken (now (s .entry)) at width limit n (now (numbers .entry)) (now (numbers .exit)) r ⌝ }
 {
     let mut place = at;
     let mut i: usize = 0;

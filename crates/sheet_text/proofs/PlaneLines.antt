@@ -13,9 +13,9 @@ use Rattle.yuv_support.specs.Blend.{chromaWidth}
 use Rattle.sheet_numbers.specs.declared.Lines.{Lines}
 use Rattle.sheet_numbers.specs.declared.Lines.the-variants.{Until, Malformed}
 use Rattle.sheet_numbers.specs.Numbers.{begin, areLines}
-use Rattle.sheet_numbers.specs.Read.{linesRead}
+use Rattle.sheet_numbers.specs.Read.{linesRead, LinesTaken}
 use Rattle.sheet_numbers.proofs.ManyNumbers.{never}
-use Rattle.sheet_numbers.proofs.Lined.{Told, Lined, lined, lined-same, lines-malformed}
+use Rattle.sheet_numbers.proofs.Lined.{Lined, lined, lined-same, lines-malformed}
 use Rattle.sheet_values.specs.declared.Values.{Values}
 use Rattle.sheet_values.specs.Values.{lumaCount, chromaCount, widest}
 use Rattle.sheet_values.proofs.Sizes.{luma-count-most, chroma-count-most}
@@ -57,9 +57,9 @@ module _ {s : List ℕ} {at : ℕ} {v : Values} {y₀ u₀ w₀ : List ℕ} (pre
 
   -- what each plane's lines are; those of chroma begin where the lines before them end
   module _ {limit : ℕ} (wide : limit ≡ widest v) where
-    pub luma-lined : {n next : ℕ} {y : List ℕ} {result : Lines} → n ≡ lumaCount v → Told s at (v .width) limit n y result → result ≡ Until next
+    pub luma-lined : {n next : ℕ} {y : List ℕ} {result : Lines} → n ≡ lumaCount v → LinesTaken s at (v .width) limit n y₀ y result → result ≡ Until next
         → LumaLined s v y next
-    luma-lined e r u = lined-same (pre .after .place) wide e (lined (pre .after .within) r u)
+    luma-lined e r u = lined-same (pre .after .place) wide e (lined (pre .after .within) (luma-asks e .3) r u)
 
     pub luma-malformed : {n : ℕ} {y u w : List ℕ} {result : Lines} → n ≡ lumaCount v → result ≡ linesRead s at (v .width) limit n → result ≡ Malformed
         → Answered s v false y u w
@@ -68,9 +68,9 @@ module _ {s : List ℕ} {at : ℕ} {v : Values} {y₀ u₀ w₀ : List ℕ} (pre
         refused s v (rw f)
 
     module _ {m : ℕ} (e : m ≡ chromaCount v) where
-      pub chroma-lined : {b width′ limit′ n′ a next : ℕ} {xs′ xs : List ℕ} {result : Lines} → Lined s b width′ limit′ n′ xs′ a
-          → Told s a (chromaWidth (v .width)) limit m xs result → result ≡ Until next → ChromaLined s v (begin s b n′) xs next
-      chroma-lined l r u = lined-same (l .end) wide e (lined (l .within) r u)
+      pub chroma-lined : {b width′ limit′ n′ a next : ℕ} {xs′ old xs : List ℕ} {result : Lines} → Lined s b width′ limit′ n′ xs′ a → length old ≡ 4096
+          → LinesTaken s a (chromaWidth (v .width)) limit m old xs result → result ≡ Until next → ChromaLined s v (begin s b n′) xs next
+      chroma-lined l k r u = lined-same (l .end) wide e (lined (l .within) (chroma-asks e (l .within) k .3) r u)
 
       chroma-malformed : {b width′ limit′ n′ a : ℕ} {xs′ : List ℕ} {result : Lines} → Lined s b width′ limit′ n′ xs′ a
           → result ≡ linesRead s a (chromaWidth (v .width)) limit m → result ≡ Malformed

@@ -15,7 +15,7 @@ use Rattle.sheet_writing.specs.Text.{joined, leadingDigit, decimalText, 
 
 -- ---- one after the other
 
-sets-append : (old : List ℕ) (at : ℕ) (a b : List ℕ) → sets (sets old at a) (at + length a) b ≡ sets old at (a ++ b)
+pub sets-append : (old : List ℕ) (at : ℕ) (a b : List ℕ) → sets (sets old at a) (at + length a) b ≡ sets old at (a ++ b)
 sets-append old at [] b = rw (add-zero at)
 sets-append old at (x ∷ a) b =
     let e : at + suc (length a) ≡ suc at + length a = omega arith in

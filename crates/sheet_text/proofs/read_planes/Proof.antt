@@ -16,12 +16,12 @@ luma-read c = luma-lined (start c .pre) (c .before .before .before .before .befo
 cb-read : (c : tie.After-cb) → let args = start (c .before .before .before .before .before .before .before) .args in CbLined (args .s .now) (args .v) (c .before .before .before .before .read-lines2 .last .1 .1 .1 .1 .1 .0) (c .cb .given .0 .0)
 cb-read c =
     let l = c .before .before .before .before .before .before .before in
-    chroma-lined (start l .pre) (l .before .before .before .before .before .before .before .before .before .widest-of .ensures) (l .before .before .before .before .before .before .before .chroma-count .ensures) (luma-read l) (c .before .before .before .before .read-lines2 .ensures) (c .cb .given .1)
+    chroma-lined (start l .pre) (l .before .before .before .before .before .before .before .before .before .widest-of .ensures) (l .before .before .before .before .before .before .before .chroma-count .ensures) (luma-read l) (start l .pre .cb) (c .before .before .before .before .read-lines2 .ensures) (c .cb .given .1)
 
 cr-read : (c : tie.After-cr) → let args = start (c .before .before .before .before .before .before .before .before .before .before .before .before .before .before) .args in CrLined (args .s .now) (args .v) (c .before .before .before .before .read-lines3 .last .1 .1 .1 .1 .1 .0) (c .cr .given .0 .0)
 cr-read c =
     let l = c .before .before .before .before .before .before .before .before .before .before .before .before .before .before in
-    chroma-lined (start l .pre) (l .before .before .before .before .before .before .before .before .before .widest-of .ensures) (l .before .before .before .before .before .before .before .chroma-count .ensures) (cb-read (c .before .before .before .before .before .before .before)) (c .before .before .before .before .read-lines3 .ensures) (c .cr .given .1)
+    chroma-lined (start l .pre) (l .before .before .before .before .before .before .before .before .before .widest-of .ensures) (l .before .before .before .before .before .before .before .chroma-count .ensures) (cb-read (c .before .before .before .before .before .before .before)) (start l .pre .cr) (c .before .before .before .before .read-lines3 .ensures) (c .cr .given .1)
 
 widest-of-requires : tie.Need-widest-of-requires
 widest-of-requires c κs = search needs
@@ -51,7 +51,7 @@ same-length : tie.Need-same-length
 same-length c = search needs
 
 returns : tie.Need-returns
-returns c = luma-malformed (c .before .before .before .before .before .before .before .before .before .before .before .before .before .before .pre) (c .before .before .before .before .before .before .before .before .before .widest-of .ensures) (c .before .before .before .before .before .before .before .before .luma-count .ensures) (c .before .before .before .before .read-lines .ensures .0) (c .enum-told .given .1)
+returns c = luma-malformed (c .before .before .before .before .before .before .before .before .before .before .before .before .before .before .pre) (c .before .before .before .before .before .before .before .before .before .widest-of .ensures) (c .before .before .before .before .before .before .before .before .luma-count .ensures) (c .before .before .before .before .read-lines .ensures .answer) (c .enum-told .given .1)
 
 read-lines-requires-2 : tie.Need-read-lines-requires-2
 read-lines-requires-2 c κs = let l = c .before .before in chroma-asks (start l .pre) (l .before .before .before .before .before .before .before .chroma-count .ensures) (luma-read l .within) (start l .pre .cb)
@@ -71,7 +71,7 @@ same-length-3 c = search needs
 returns-2 : tie.Need-returns-2
 returns-2 c =
     let l = c .before .before .before .before .before .before .before in
-    cb-malformed (start l .pre) (l .before .before .before .before .before .before .before .before .before .widest-of .ensures) (l .before .before .before .before .before .before .before .chroma-count .ensures) (luma-read l) (c .before .before .before .before .read-lines2 .ensures .0) (c .enum-told2 .given .1)
+    cb-malformed (start l .pre) (l .before .before .before .before .before .before .before .before .before .widest-of .ensures) (l .before .before .before .before .before .before .before .chroma-count .ensures) (luma-read l) (c .before .before .before .before .read-lines2 .ensures .answer) (c .enum-told2 .given .1)
 
 read-lines-requires-3 : tie.Need-read-lines-requires-3
 read-lines-requires-3 c κs = let l = c .before .before .before .before .before .before .before .before .before in chroma-asks (start l .pre) (l .before .before .before .before .before .before .before .chroma-count .ensures) (cb-read (c .before .before) .within) (start l .pre .cr)
@@ -94,7 +94,7 @@ same-length-6 c = search needs
 returns-3 : tie.Need-returns-3
 returns-3 c =
     let l = c .before .before .before .before .before .before .before .before .before .before .before .before .before .before in
-    cr-malformed (start l .pre) (l .before .before .before .before .before .before .before .before .before .widest-of .ensures) (l .before .before .before .before .before .before .before .chroma-count .ensures) (luma-read l) (cb-read (c .before .before .before .before .before .before .before)) (c .before .before .before .before .read-lines3 .ensures .0) (c .enum-told3 .given .1)
+    cr-malformed (start l .pre) (l .before .before .before .before .before .before .before .before .before .widest-of .ensures) (l .before .before .before .before .before .before .before .chroma-count .ensures) (luma-read l) (cb-read (c .before .before .before .before .before .before .before)) (c .before .before .before .before .read-lines3 .ensures .answer) (c .enum-told3 .given .1)
 
 same-length-7 : tie.Need-same-length-7
 same-length-7 c = search needs

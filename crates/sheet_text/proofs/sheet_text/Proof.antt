@@ -18,7 +18,7 @@ named c = sym (c .before .has-names .ensures) ∙ not-false _ (c .if1 .left)
 
 -- the seven numbers of the second line
 values-lined : (c : tie.After-line) → Lined (c .before .before .before .before .before .before .before .before .args .input .now) 47 7 99999 7 (c .before .before .before .read-lines .last .1 .1 .1 .1 .1 .0) (c .line .given .0 .0)
-values-lined c = lined (names-length _ (named (c .before .before .before .before .before))) (c .before .before .before .read-lines .ensures) (c .line .given .1)
+values-lined c = lined (names-length _ (named (c .before .before .before .before .before))) (lit≤ tt) (c .before .before .before .read-lines .ensures) (c .line .given .1)
 
 has-names-requires : tie.Need-has-names-requires
 has-names-requires c κs = search needs
@@ -53,7 +53,7 @@ answer-values-requires c κs = let l = values-lined (c .before .before .before .
 returns-2 : tie.Need-returns-2
 returns-2 c =
     wrote-whole (c .put-refusal2 .ensures)
-    (values-missed _ (named (c .before .before .before .before .before .before .before)) (lines-malformed _ 47 7 99999 7 (c .before .before .before .before .before .read-lines .ensures .0) (c .before .before .enum-told .given .1)))
+    (values-missed _ (named (c .before .before .before .before .before .before .before)) (lines-malformed _ 47 7 99999 7 (c .before .before .before .before .before .read-lines .ensures .answer) (c .before .before .enum-told .given .1)))
 
 returns-3 : tie.Need-returns-3
 returns-3 c =
