@@ -1,4 +1,5 @@
--- Document 01, "The words of demand 3": the exact equations in whole numbers, the distance of a component, and demand 3's claim.
+-- Document 01, "The words of demand 3": the exact equations in whole numbers, and how far a component lies from its own.
+-- Conversion has the whole claim.
 -- Definitions only.
 use Prim.Native.Nat.{ℕ, _+_, _-_, _*_, _≤_, _<_}
 use mathlib.Core.Bool.{Bool, true, false, cond}
@@ -61,7 +62,7 @@ boundDen d = cond (eqb d 8) 5 (cond (eqb d 10) 10 1)
 unfoldable pub Close : ℕ → YuvRange → YuvStandardMatrix → ℕ → ℤ → Type 0
 Close d r m x e = boundDen d * apart (x * D d r m) (clamp (maxOf d * D d r m) e) < boundNum d * D d r m
 
--- ---- demand 3's claim of the finished picture
+-- ---- what demand 3 says of the distance, and of which pictures
 
 -- BT.601, BT.709 and BT.2020
 unfoldable pub measured : YuvStandardMatrix → Bool
