@@ -1,6 +1,6 @@
 -- Laws of the letters of a pixel and of the picture. Element column·channels + k of a row holds letter k of that column's pixel (`element-at`),
--- so in the written band each pixel stands whole (`pixel-in`), its components where the definition looks for them (`component-in`), and what
--- belongs to no pixel is kept (`kept-in`); and a picture whose every component is close to the exact equation is faithful (`faithful-band`,
+-- so in the written band each pixel stands whole (`pixel-in`), its components where the definition looks for them (`component-in`); what
+-- belongs to no pixel of the picture is kept (`picture-kept`); and a picture whose every component is close to the exact equation is faithful (`faithful-band`,
 -- `faithful-picture`).
 -- Assumes nothing.
 use mathlib.Core.Path.{_≡_, refl, sym, ap, _∙_}
