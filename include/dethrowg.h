@@ -3,9 +3,9 @@
  * Link libdethrowg.a (x86-64 Linux, made by `rt staticlib dethrowg`).
  *
  * Samples. Plane u holds Cb and plane v holds Cr. Depth 8 is uint8_t; depths 10 and 12 are uint16_t
- * in the host's byte order, the sample in the low bits. The picture has the depth of its planes:
- * 10-bit planes give components from 0 to 1023 in uint16_t. Alpha is the largest code: 255, 1023 or
- * 4095.
+ * in the host's byte order, the sample in the low bits or in the high bits, as the packing says.
+ * The picture has the depth of its planes and is not packed: 10-bit planes of either packing give
+ * components from 0 to 1023 in uint16_t. Alpha is the largest code: 255, 1023 or 4095.
  *
  * Sides are 1 to 16384. Strides and lengths are counted in elements, not in bytes. A length may be
  * larger than the picture needs. The chroma width is ceil(width/2); the chroma height is
@@ -21,10 +21,14 @@
  * functions may run in several threads at once, also on the same planes, as long as no one writes
  * to a buffer of a call that runs.
  *
+ * Stack. A conversion of uint16_t planes takes about 100 KiB of the calling thread's stack, in
+ * either packing; every other function takes less than 16 KiB. No memory is allocated.
+ *
  * Bounds. Proved for BT.601, BT.709 and BT.2020 (matrices 0 to 2): each component is less than 8/5
  * codes (8 bits), 17/10 (10 bits) or 2 (12 bits) from the standard's exact equation, clamped to the
- * depth, of the pixel's luma and of its chroma as blended here but not rounded. At 10 and 12 bits
- * this is for samples within the depth; for bytes always.
+ * depth, of the pixel's luma and of its chroma as blended here but not rounded. For bytes this
+ * holds always, and for samples in the high bits too, with the equation of the divided samples. For
+ * samples in the low bits at 10 and 12 bits it holds where they are within the depth.
  *
  * Three things that a user who measures must know are kept from the Rust source; the figures stand
  * in docs/DIFFERENCES.md.
@@ -47,8 +51,7 @@
 extern "C" {
 #endif
 
-/* The codes of the parameters. Any other value can be asked too, and is refused. The depth is the
- * number 8, 10 or 12. */
+/* The codes. Any other value can be asked too, and is refused. */
 
 enum dethrowg_sampling {
     DETHROWG_YUV420 = 0,
@@ -67,7 +70,6 @@ enum dethrowg_range {
     DETHROWG_FULL = 1
 };
 
-/* kr and kb are the weights of red and blue for DETHROWG_CUSTOM; the others ignore them. */
 enum dethrowg_matrix {
     DETHROWG_BT601 = 0,
     DETHROWG_BT709 = 1,
@@ -78,16 +80,40 @@ enum dethrowg_matrix {
     DETHROWG_CUSTOM = 6
 };
 
+/* The bits of a uint16_t in which the sample stands. With DETHROWG_HIGH_BITS each sample of Y, U
+ * and V is first divided by 2^(16 - depth), rounding down. Depth 8 has low bits only. */
+enum dethrowg_packing {
+    DETHROWG_LOW_BITS = 0,
+    DETHROWG_HIGH_BITS = 1
+};
+
 enum dethrowg_plane {
     DETHROWG_PLANE_U = 0,
     DETHROWG_PLANE_V = 1
 };
 
+/* The settings of a conversion. */
+typedef struct {
+    uint32_t depth;    /* 8, 10 or 12 */
+    uint32_t sampling; /* enum dethrowg_sampling */
+    uint32_t order;    /* enum dethrowg_order */
+    uint32_t range;    /* enum dethrowg_range */
+    uint32_t matrix;   /* enum dethrowg_matrix */
+    uint32_t packing;  /* enum dethrowg_packing */
+    float kr, kb;      /* weights of red and blue for DETHROWG_CUSTOM; the others ignore them */
+} dethrowg_codes;
+
+/* The sides of the picture, and the strides of its planes. */
+typedef struct {
+    uint32_t width, height, y_stride, u_stride, v_stride;
+} dethrowg_image;
+
 /* The number is 0 for an accepted call, else that of the first question which got a "no". */
 enum dethrowg_number {
     DETHROWG_ACCEPTED = 0,
     DETHROWG_SAMPLING_UNKNOWN = 1,     /* is sampling 0 or 1? */
-    DETHROWG_CODE_UNKNOWN = 2,         /* are the other codes and the depth known? */
+    DETHROWG_CODE_UNKNOWN = 2,         /* are the other codes and the depth known, and is the
+                                          packing one of that depth? */
     DETHROWG_SIDE_ZERO = 3,            /* are both sides at least 1? */
     DETHROWG_SIDE_TOO_LARGE = 4,       /* are both sides at most 16384? */
     DETHROWG_RGB_TOO_SHORT = 5,        /* is the destination long enough? (needed, actual) */
@@ -112,9 +138,9 @@ typedef struct {
     uint64_t number, expected, received;
 } dethrowg_answer;
 
-/* The settings that a conversion uses: the largest sample, the biases, and the coefficients in
- * units of 1/8192; g1 and g2 are what green takes off for Cr and for Cb. All 0 where number is
- * not. */
+/* The settings that a conversion uses: the largest sample of the depth, the biases, and the
+ * coefficients in units of 1/8192; g1 and g2 are what green takes off for Cr and for Cb. All 0
+ * where number is not. */
 typedef struct {
     uint64_t number, expected, received;
     uint32_t max, bias_y, bias_uv, y, cr, cb, g1, g2;
@@ -125,29 +151,24 @@ typedef struct {
     uint64_t number, expected, received, start, length;
 } dethrowg_part;
 
-/* The settings used at a depth of 8, 10 or 12. Asks 2 and 13. */
-dethrowg_settings_used dethrowg_coefficients(
-    uint32_t depth, uint32_t range, uint32_t matrix, float kr, float kb);
+/* The settings that a conversion with the same codes uses. Asks what concerns the codes alone: 1, 2
+ * with the depths of both element types, and 13. So an accepted conversion always has them. */
+dethrowg_settings_used dethrowg_coefficients(dethrowg_codes codes);
 
 /* Converts a whole picture. Asks 1 to 13. A refused call changes nothing; an accepted one writes
  * the pixels, the one at row r and column c from element rgb_stride * r + channels * c on, and
  * nothing else. */
 dethrowg_answer dethrowg_yuv8_to_rgb(
-    uint32_t depth, uint32_t sampling, uint32_t order, uint32_t range, uint32_t matrix,
-    float kr, float kb, uint32_t width, uint32_t height,
-    const uint8_t *y, size_t y_len, uint32_t y_stride,
-    const uint8_t *u, size_t u_len, uint32_t u_stride,
-    const uint8_t *v, size_t v_len, uint32_t v_stride,
-    uint8_t *rgb, size_t rgb_len, uint32_t rgb_stride);
+    dethrowg_codes codes, dethrowg_image image,
+    const uint8_t *y, size_t y_len, const uint8_t *u, size_t u_len,
+    const uint8_t *v, size_t v_len, uint8_t *rgb, size_t rgb_len, uint32_t rgb_stride);
 
-/* The same for depths 10 and 12. Samples above the depth's largest are taken as they are. */
+/* The same for depths 10 and 12. Samples in the low bits that are above the depth's largest are
+ * taken as they are. */
 dethrowg_answer dethrowg_yuv16_to_rgb(
-    uint32_t depth, uint32_t sampling, uint32_t order, uint32_t range, uint32_t matrix,
-    float kr, float kb, uint32_t width, uint32_t height,
-    const uint16_t *y, size_t y_len, uint32_t y_stride,
-    const uint16_t *u, size_t u_len, uint32_t u_stride,
-    const uint16_t *v, size_t v_len, uint32_t v_stride,
-    uint16_t *rgb, size_t rgb_len, uint32_t rgb_stride);
+    dethrowg_codes codes, dethrowg_image image,
+    const uint16_t *y, size_t y_len, const uint16_t *u, size_t u_len,
+    const uint16_t *v, size_t v_len, uint16_t *rgb, size_t rgb_len, uint32_t rgb_stride);
 
 /* A finished row of a destination, width * channels long. Asks 2 (the order), 3 to 6 and 14. */
 dethrowg_part dethrowg_row8(
@@ -158,8 +179,9 @@ dethrowg_part dethrowg_row16(
     uint32_t order, uint32_t width, uint32_t height,
     const uint16_t *rgb, size_t rgb_len, uint32_t rgb_stride, uint32_t row);
 
-/* The chroma row nearest to a luma row, in the U plane or the V plane, chroma width long.
- * Asks 1, 2 (the plane), 3, 4, 9 to 12 of both planes, and 14. */
+/* The chroma row nearest to a luma row, in the U plane or the V plane, chroma width long: the
+ * plane's elements as they stand, not divided. Asks 1, 2 (the plane), 3, 4, 9 to 12 of both planes,
+ * and 14. */
 dethrowg_part dethrowg_chroma_row8(
     uint32_t sampling, uint32_t plane, uint32_t width, uint32_t height,
     const uint8_t *u, size_t u_len, uint32_t u_stride,

@@ -8,8 +8,25 @@
 
 #include "dethrowg.h"
 
-enum { DEPTH = 8, WIDTH = 4, HEIGHT = 3, CHANNELS = 4, STRIDE = WIDTH * CHANNELS };
+enum { WIDTH = 4, HEIGHT = 3, CHANNELS = 4, STRIDE = WIDTH * CHANNELS };
 enum { CHROMA_WIDTH = (WIDTH + 1) / 2, CHROMA_HEIGHT = (HEIGHT + 1) / 2 };
+
+static const dethrowg_codes codes = {
+    .depth = 8,
+    .sampling = DETHROWG_YUV420,
+    .order = DETHROWG_RGBA,
+    .range = DETHROWG_LIMITED,
+    .matrix = DETHROWG_BT709,
+    .packing = DETHROWG_LOW_BITS,
+};
+
+static const dethrowg_image image = {
+    .width = WIDTH,
+    .height = HEIGHT,
+    .y_stride = WIDTH,
+    .u_stride = CHROMA_WIDTH,
+    .v_stride = CHROMA_WIDTH,
+};
 
 static const uint8_t y[WIDTH * HEIGHT] = {
     16, 90, 160, 235,
@@ -27,18 +44,16 @@ static const char *const words[] = {
 /* ---- the calls of the library */
 
 static dethrowg_settings_used settings(void) {
-    return dethrowg_coefficients(DEPTH, DETHROWG_LIMITED, DETHROWG_BT709, 0, 0);
+    return dethrowg_coefficients(codes);
 }
 
 static dethrowg_answer convert(uint8_t *rgb, size_t rgb_len) {
     return dethrowg_yuv8_to_rgb(
-        DEPTH, DETHROWG_YUV420, DETHROWG_RGBA, DETHROWG_LIMITED, DETHROWG_BT709, 0, 0, WIDTH, HEIGHT,
-        y, sizeof y, WIDTH, u, sizeof u, CHROMA_WIDTH, v, sizeof v, CHROMA_WIDTH,
-        rgb, rgb_len, STRIDE);
+        codes, image, y, sizeof y, u, sizeof u, v, sizeof v, rgb, rgb_len, STRIDE);
 }
 
 static dethrowg_part finished_row(const uint8_t *rgb, size_t rgb_len, uint32_t row) {
-    return dethrowg_row8(DETHROWG_RGBA, WIDTH, HEIGHT, rgb, rgb_len, STRIDE, row);
+    return dethrowg_row8(codes.order, WIDTH, HEIGHT, rgb, rgb_len, STRIDE, row);
 }
 
 /* ---- printing */

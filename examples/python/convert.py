@@ -1,5 +1,6 @@
-"""Converts a 4:2:0 frame of 8 bits and one of 10 bits to RGB, and prints the settings used for each,
-the pictures, and a refused call. In the repository, after `rt staticlib dethrowg`:
+"""Converts a 4:2:0 frame to RGB, from 8 bits, from 10 bits and from 10 bits in the high bits, and
+prints the settings used for each, the pictures, and a refused call. In the repository, after
+`rt staticlib dethrowg`:
 
     python3 examples/python/convert.py
 """
@@ -20,7 +21,22 @@ YUV420, YUV422 = range(2)
 RGB, RGBA, BGRA, BGR = range(4)
 LIMITED, FULL = range(2)
 BT601, BT709, BT2020, SMPTE240, BT470_6, FCC, CUSTOM = range(7)
+LOW_BITS, HIGH_BITS = range(2)
 CHANNELS = {RGB: 3, RGBA: 4, BGRA: 4, BGR: 3}
+
+
+class Codes(Structure):
+    """The settings of a conversion. What is not given is 0."""
+
+    _fields_ = [
+        (name, c_uint32) for name in ("depth", "sampling", "order", "range", "matrix", "packing")
+    ] + [("kr", c_float), ("kb", c_float)]
+
+
+class Image(Structure):
+    _fields_ = [
+        (name, c_uint32) for name in ("width", "height", "y_stride", "u_stride", "v_stride")
+    ]
 
 
 class Answer(Structure):
@@ -40,14 +56,14 @@ def load():
         check=True,
     )
     library = CDLL(str(SHARED))
-    library.dethrowg_coefficients.argtypes = [c_uint32] * 3 + [c_float] * 2
+    library.dethrowg_coefficients.argtypes = [Codes]
     library.dethrowg_coefficients.restype = SettingsUsed
     for function, element in (
         (library.dethrowg_yuv8_to_rgb, c_uint8),
         (library.dethrowg_yuv16_to_rgb, c_uint16),
     ):
-        buffer = [POINTER(element), c_size_t, c_uint32]  # elements, length, stride
-        function.argtypes = [c_uint32] * 5 + [c_float] * 2 + [c_uint32] * 2 + buffer * 4
+        buffer = [POINTER(element), c_size_t]  # elements, length
+        function.argtypes = [Codes, Image] + buffer * 4 + [c_uint32]
         function.restype = Answer
     return library
 
@@ -65,47 +81,55 @@ def accepted(answer):
     return answer
 
 
-def settings_used(depth, range_, matrix, kr=0, kb=0):
+def settings_used(codes):
     """What a conversion with the same codes works with."""
-    used = accepted(LIBRARY.dethrowg_coefficients(depth, range_, matrix, kr, kb))
+    used = accepted(LIBRARY.dethrowg_coefficients(codes))
     return {name: getattr(used, name) for name, _ in SettingsUsed._fields_[3:]}
 
 
-def convert(y, u, v, width, height, depth, sampling, order, range_, matrix, kr=0, kb=0):
+def convert(codes, width, height, y, u, v):
     """The rows of the picture, each a list of width * channels values from 0 to 2**depth - 1.
 
     The planes are sequences of samples without gaps between the rows; u is Cb, v is Cr.
     """
-    if depth == 8:
+    if codes.depth == 8:
         function, element, letter = LIBRARY.dethrowg_yuv8_to_rgb, c_uint8, "B"
     else:
         function, element, letter = LIBRARY.dethrowg_yuv16_to_rgb, c_uint16, "H"
-    chroma_width, stride = (width + 1) // 2, width * CHANNELS[order]
+    chroma_width, stride = (width + 1) // 2, width * CHANNELS[codes.order]
     # ctypes cuts a sample that the element cannot hold; array raises an error
     y, u, v = ((element * len(plane))(*array(letter, plane)) for plane in (y, u, v))
     rgb = (element * (stride * height))()
-    answer = function(
-        depth, sampling, order, range_, matrix, kr, kb, width, height,
-        y, len(y), width, u, len(u), chroma_width, v, len(v), chroma_width, rgb, len(rgb), stride,
-    )  # fmt: skip
-    accepted(answer)
+    image = Image(width, height, width, chroma_width, chroma_width)
+    accepted(function(codes, image, y, len(y), u, len(u), v, len(v), rgb, len(rgb), stride))
     return [rgb[stride * row : stride * (row + 1)] for row in range(height)]
 
 
-def show(title, y, u, v, depth):
-    print(f"{title}, settings used: {settings_used(depth, LIMITED, BT709)}")
-    for row in convert(y, u, v, 4, 3, depth, YUV420, RGB, LIMITED, BT709):
+def video(depth, packing=LOW_BITS):
+    """4:2:0 to RGB, limited BT.709."""
+    return Codes(
+        depth=depth, sampling=YUV420, order=RGB, range=LIMITED, matrix=BT709, packing=packing
+    )
+
+
+def show(title, codes, y, u, v):
+    print(f"{title}, settings used: {settings_used(codes)}")
+    for row in convert(codes, 4, 3, y, u, v):
         print("".join(f"  {r:4} {g:4} {b:4}" for r, g, b in zip(row[0::3], row[1::3], row[2::3])))
 
 
 def main():
     y = [16, 90, 160, 235, 30, 100, 170, 200, 40, 110, 180, 220]
     u, v = [128, 90, 150, 128], [128, 160, 100, 128]
-    show("8 bits", y, u, v, 8)
+    show("8 bits", video(8), y, u, v)
     # the same samples times 4
-    show("10 bits", *([4 * sample for sample in plane] for plane in (y, u, v)), 10)
+    ten = [[4 * sample for sample in plane] for plane in (y, u, v)]
+    show("10 bits", video(10), *ten)
+    # the same frame from a camera that puts its samples into the high bits
+    high = [[sample << 6 for sample in plane] for plane in ten]
+    show("10 bits in the high bits", video(10, HIGH_BITS), *high)
     try:
-        convert(y[:-1], u, v, 4, 3, 8, YUV420, RGB, LIMITED, BT709)
+        convert(video(8), 4, 3, y[:-1], u, v)
     except ValueError as refusal:
         print(f"luma one sample short, refused: {refusal}")
 

@@ -4,6 +4,29 @@
 //!     rustc --edition 2021 -O -L target/staticlib -l static=dethrowg examples/rust/main.rs -o target/convert_rust
 //!     target/convert_rust
 
+/// The settings of a conversion.
+#[repr(C)]
+struct Codes {
+    depth: u32,
+    sampling: u32,
+    order: u32,
+    range: u32,
+    matrix: u32,
+    packing: u32,
+    kr: f32,
+    kb: f32,
+}
+
+/// The sides of the picture, and the strides of its planes.
+#[repr(C)]
+struct Image {
+    width: u32,
+    height: u32,
+    y_stride: u32,
+    u_stride: u32,
+    v_stride: u32,
+}
+
 #[repr(C)]
 struct Answer {
     number: u64,
@@ -38,13 +61,10 @@ struct Part {
 
 #[rustfmt::skip]
 extern "C" {
-    fn dethrowg_coefficients(depth: u32, range: u32, matrix: u32, kr: f32, kb: f32) -> SettingsUsed;
+    fn dethrowg_coefficients(codes: Codes) -> SettingsUsed;
     fn dethrowg_yuv8_to_rgb(
-        depth: u32, sampling: u32, order: u32, range: u32, matrix: u32, kr: f32, kb: f32,
-        width: u32, height: u32,
-        y: *const u8, y_len: usize, y_stride: u32,
-        u: *const u8, u_len: usize, u_stride: u32,
-        v: *const u8, v_len: usize, v_stride: u32,
+        codes: Codes, image: Image,
+        y: *const u8, y_len: usize, u: *const u8, u_len: usize, v: *const u8, v_len: usize,
         rgb: *mut u8, rgb_len: usize, rgb_stride: u32,
     ) -> Answer;
     fn dethrowg_row8(
@@ -53,15 +73,36 @@ extern "C" {
     ) -> Part;
 }
 
-const DEPTH: u32 = 8;
+// codes of include/dethrowg.h
 const YUV420: u32 = 0;
 const RGBA: u32 = 1;
 const LIMITED: u32 = 0;
 const BT709: u32 = 1;
+const LOW_BITS: u32 = 0;
+
+const CODES: Codes = Codes {
+    depth: 8,
+    sampling: YUV420,
+    order: RGBA,
+    range: LIMITED,
+    matrix: BT709,
+    packing: LOW_BITS,
+    kr: 0.0,
+    kb: 0.0,
+};
+
 const WIDTH: u32 = 4;
 const HEIGHT: u32 = 3;
 const CHROMA_WIDTH: u32 = WIDTH.div_ceil(2);
 const STRIDE: u32 = WIDTH * 4;
+
+const IMAGE: Image = Image {
+    width: WIDTH,
+    height: HEIGHT,
+    y_stride: WIDTH,
+    u_stride: CHROMA_WIDTH,
+    v_stride: CHROMA_WIDTH,
+};
 
 #[rustfmt::skip]
 const Y: [u8; 12] = [
@@ -78,7 +119,7 @@ const WORDS: &str = include_str!("../words.inc");
 // ---- the calls of the library; a slice's pointer is never null
 
 fn settings() -> SettingsUsed {
-    unsafe { dethrowg_coefficients(DEPTH, LIMITED, BT709, 0.0, 0.0) }
+    unsafe { dethrowg_coefficients(CODES) }
 }
 
 /// Rust keeps `rgb` apart from the planes.
@@ -86,10 +127,8 @@ fn settings() -> SettingsUsed {
 fn convert(rgb: &mut [u8]) -> Result<(), String> {
     let Answer { number, expected, received } = unsafe {
         dethrowg_yuv8_to_rgb(
-            DEPTH, YUV420, RGBA, LIMITED, BT709, 0.0, 0.0, WIDTH, HEIGHT,
-            Y.as_ptr(), Y.len(), WIDTH,
-            U.as_ptr(), U.len(), CHROMA_WIDTH,
-            V.as_ptr(), V.len(), CHROMA_WIDTH,
+            CODES, IMAGE,
+            Y.as_ptr(), Y.len(), U.as_ptr(), U.len(), V.as_ptr(), V.len(),
             rgb.as_mut_ptr(), rgb.len(), STRIDE,
         )
     };
@@ -97,7 +136,8 @@ fn convert(rgb: &mut [u8]) -> Result<(), String> {
 }
 
 fn finished_row(rgb: &[u8], row: u32) -> Result<&[u8], String> {
-    let part = unsafe { dethrowg_row8(RGBA, WIDTH, HEIGHT, rgb.as_ptr(), rgb.len(), STRIDE, row) };
+    let part =
+        unsafe { dethrowg_row8(CODES.order, WIDTH, HEIGHT, rgb.as_ptr(), rgb.len(), STRIDE, row) };
     accepted(part.number, part.expected, part.received)?;
     let start = part.start as usize;
     Ok(&rgb[start..start + part.length as usize])

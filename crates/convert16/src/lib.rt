@@ -2,6 +2,7 @@
 ghost use mathlib.Core.Path.{_≡_};
 ghost use Prim.Native.Nat.{_+_, _*_, _≤_, _<_};
 ghost use lib.ListN.{length};
+ghost use Rattle.yuv_support.specs.declared.YuvBytesPacking.the-variants.{LeastSignificantBytes};
 ghost use Rattle.yuv_support.specs.Blend.{frameOf};
 ghost use Rattle.yuv_support.specs.Picture.{channelsOf, rowOf, elementOf, band};
 ghost use Rattle.yuv_support.specs.Questions.{needed};
@@ -14,7 +15,7 @@ use yuv_support::YuvSourceChannels;
 
 // One row in a channel order. The order is tested here, outside the loops: blue goes first by exchanging U and V.
 // In the tail Cr takes more of the far row, as the source has it.
-fn interpolate_row(
+pub fn interpolate_row(
     row: &mut [u16],
     y: &[u16],
     un: &[u16],
@@ -83,7 +84,7 @@ fn interpolate_row(
     }
 }
 
-// Row r of the picture, into a part that is as long as the row.
+// Row r of the picture, into a part that is as long as the row. The samples stand in the low bits.
 fn convert_row(
     row: &mut [u16],
     y: &[u16],
@@ -94,7 +95,7 @@ fn convert_row(
     k: Kernel,
     r: u32,
 )
-    requires { ⌜ Words k × Ready s (frameOf image (now y) (now u) (now v)) k ⌝ }
+    requires { ⌜ Words k × Ready s (frameOf image (now y) (now u) (now v)) k × (s .packing ≡ LeastSignificantBytes) ⌝ }
     requires { ⌜ (r < image .height) × (length (now row) ≡ image .width * channelsOf (s .order)) ⌝ }
     ensures { λ _. ⌜ now (row .exit) ≡ rowOf (elementOf s (frameOf image (now (y .entry)) (now (u .entry)) (now (v .entry)))) r (now (row .entry)) ⌝ }
 {
@@ -122,7 +123,7 @@ pub fn convert_rows(
     first: u32,
     count: u32,
 )
-    requires { ⌜ Words k × Ready s (frameOf image (now y) (now u) (now v)) k ⌝ }
+    requires { ⌜ Words k × Ready s (frameOf image (now y) (now u) (now v)) k × (s .packing ≡ LeastSignificantBytes) ⌝ }
     requires { ⌜ (first + count ≤ image .height) × (image .width * channelsOf (s .order) ≤ «rgb_stride») × (needed «rgb_stride» (image .width * channelsOf (s .order)) (image .height) ≤ length (now rgb)) ⌝ }
     ensures { λ _. ⌜ now (rgb .exit) ≡ band s (frameOf image (now (y .entry)) (now (u .entry)) (now (v .entry))) «rgb_stride» first count (now (rgb .entry)) ⌝ }
 {

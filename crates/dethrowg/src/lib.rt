@@ -2,12 +2,11 @@
 // Each hands on to one entry and promises what that entry promises. Nothing is asked of the caller beyond what the header says of pointers.
 ghost use mathlib.Core.Path.{_≡_};
 ghost use Rattle.yuv_support.specs.Settings.{depths8, depths16};
-ghost use Rattle.yuv_support.specs.Distance.{AnySamples, WithinDepth};
+ghost use Rattle.yuv_support.specs.Distance.{AnySamples, WithinIfLow};
 ghost use Rattle.yuv_support.specs.Conversion.{answerTo, destinationAfter, Demand3After};
 ghost use Rattle.yuv_error.specs.Told.{asTold};
 ghost use Rattle.settings_used.specs.Used.{settingsUsedOf};
 ghost use Rattle.row_readers.specs.Readers.{extentOf, rowPlace, chromaRowPlace};
-ghost use Rattle.dethrowg.specs.Call.{codesOf, imageOf};
 use row_readers::Part;
 use settings_used::SettingsUsed;
 use yuv_error::Told;
@@ -16,59 +15,27 @@ use yuv_support::YuvPlanarImage;
 
 // The settings used at any codes and weights.
 #[no_mangle]
-pub extern "C" fn dethrowg_coefficients(
-    depth: u32,
-    range: u32,
-    matrix: u32,
-    kr: f32,
-    kb: f32,
-) -> SettingsUsed
-    ensures { λ r. ⌜ r ≡ settingsUsedOf depth range matrix kr kb ⌝ }
+pub extern "C" fn dethrowg_coefficients(codes: Codes) -> SettingsUsed
+    ensures { λ r. ⌜ r ≡ settingsUsedOf codes ⌝ }
 {
-    settings_used::settings_used(depth, range, matrix, kr, kb)
+    settings_used::settings_used(codes)
 }
 
 // A conversion of byte planes.
 #[no_mangle]
 pub extern "C" fn dethrowg_yuv8_to_rgb(
-    depth: u32,
-    sampling: u32,
-    order: u32,
-    range: u32,
-    matrix: u32,
-    kr: f32,
-    kb: f32,
-    width: u32,
-    height: u32,
+    codes: Codes,
+    image: YuvPlanarImage,
     y: &[u8],
-    y_stride: u32,
     u: &[u8],
-    u_stride: u32,
     v: &[u8],
-    v_stride: u32,
     rgb: &mut [u8],
     rgb_stride: u32,
 ) -> Told
-    ensures { λ r. ⌜ r ≡ asTold (answerTo depths8 (codesOf depth sampling order range matrix kr kb) (imageOf width height «y_stride» «u_stride» «v_stride») (now (y .entry)) (now (u .entry)) (now (v .entry)) «rgb_stride» (now (rgb .entry))) ⌝ }
-    ensures { λ r. ⌜ now (rgb .exit) ≡ destinationAfter depths8 (codesOf depth sampling order range matrix kr kb) (imageOf width height «y_stride» «u_stride» «v_stride») (now (y .entry)) (now (u .entry)) (now (v .entry)) «rgb_stride» (now (rgb .entry)) ⌝ }
-    ensures { λ r. ⌜ Demand3After AnySamples depths8 (codesOf depth sampling order range matrix kr kb) (imageOf width height «y_stride» «u_stride» «v_stride») (now (y .entry)) (now (u .entry)) (now (v .entry)) «rgb_stride» (now (rgb .entry)) (now (rgb .exit)) ⌝ }
+    ensures { λ r. ⌜ r ≡ asTold (answerTo depths8 codes image (now (y .entry)) (now (u .entry)) (now (v .entry)) «rgb_stride» (now (rgb .entry))) ⌝ }
+    ensures { λ r. ⌜ now (rgb .exit) ≡ destinationAfter depths8 codes image (now (y .entry)) (now (u .entry)) (now (v .entry)) «rgb_stride» (now (rgb .entry)) ⌝ }
+    ensures { λ r. ⌜ Demand3After AnySamples depths8 codes image (now (y .entry)) (now (u .entry)) (now (v .entry)) «rgb_stride» (now (rgb .entry)) (now (rgb .exit)) ⌝ }
 {
-    let codes = Codes {
-        depth,
-        sampling,
-        order,
-        range,
-        matrix,
-        kr,
-        kb,
-    };
-    let image = YuvPlanarImage {
-        width,
-        height,
-        y_stride,
-        u_stride,
-        v_stride,
-    };
     yuv_error::told_of(yuv_to_rgba_bilinear::yuv_to_rgbx_bilinear(
         codes,
         image,
@@ -83,44 +50,18 @@ pub extern "C" fn dethrowg_yuv8_to_rgb(
 // A conversion of u16 planes of 10 or 12 bits.
 #[no_mangle]
 pub extern "C" fn dethrowg_yuv16_to_rgb(
-    depth: u32,
-    sampling: u32,
-    order: u32,
-    range: u32,
-    matrix: u32,
-    kr: f32,
-    kb: f32,
-    width: u32,
-    height: u32,
+    codes: Codes,
+    image: YuvPlanarImage,
     y: &[u16],
-    y_stride: u32,
     u: &[u16],
-    u_stride: u32,
     v: &[u16],
-    v_stride: u32,
     rgb: &mut [u16],
     rgb_stride: u32,
 ) -> Told
-    ensures { λ r. ⌜ r ≡ asTold (answerTo depths16 (codesOf depth sampling order range matrix kr kb) (imageOf width height «y_stride» «u_stride» «v_stride») (now (y .entry)) (now (u .entry)) (now (v .entry)) «rgb_stride» (now (rgb .entry))) ⌝ }
-    ensures { λ r. ⌜ now (rgb .exit) ≡ destinationAfter depths16 (codesOf depth sampling order range matrix kr kb) (imageOf width height «y_stride» «u_stride» «v_stride») (now (y .entry)) (now (u .entry)) (now (v .entry)) «rgb_stride» (now (rgb .entry)) ⌝ }
-    ensures { λ r. ⌜ Demand3After WithinDepth depths16 (codesOf depth sampling order range matrix kr kb) (imageOf width height «y_stride» «u_stride» «v_stride») (now (y .entry)) (now (u .entry)) (now (v .entry)) «rgb_stride» (now (rgb .entry)) (now (rgb .exit)) ⌝ }
+    ensures { λ r. ⌜ r ≡ asTold (answerTo depths16 codes image (now (y .entry)) (now (u .entry)) (now (v .entry)) «rgb_stride» (now (rgb .entry))) ⌝ }
+    ensures { λ r. ⌜ now (rgb .exit) ≡ destinationAfter depths16 codes image (now (y .entry)) (now (u .entry)) (now (v .entry)) «rgb_stride» (now (rgb .entry)) ⌝ }
+    ensures { λ r. ⌜ Demand3After WithinIfLow depths16 codes image (now (y .entry)) (now (u .entry)) (now (v .entry)) «rgb_stride» (now (rgb .entry)) (now (rgb .exit)) ⌝ }
 {
-    let codes = Codes {
-        depth,
-        sampling,
-        order,
-        range,
-        matrix,
-        kr,
-        kb,
-    };
-    let image = YuvPlanarImage {
-        width,
-        height,
-        y_stride,
-        u_stride,
-        v_stride,
-    };
     yuv_error::told_of(yuv_p16_to_rgba16_bilinear::yuv16_to_rgbx_bilinear(
         codes,
         image,

@@ -7,6 +7,7 @@ use Prim.Native.Nat.{ℕ, _≤_}
 use borrow.Author.Tests.{leb-true}
 use lib.Dec.{leb}
 use Rattle.yuv_support.specs.declared.Codes.{Codes}
+use Rattle.yuv_support.specs.Settings.{lastPacking}
 use Rattle.yuv_support.specs.Questions.{verdict, sides, codesKnown}
 use Rattle.yuv_support.proofs.Questions.{each-holds}
 
@@ -22,9 +23,13 @@ sides-held width height e =
       height-least = leb-true 1 height (and-eq-true-iff (leb 1 width) _ .0 (h 0) .1);
     }
 
-pub depth-held : (depthKnown : Bool) (c : Codes) → verdict (codesKnown depthKnown c ∷ []) .number ≡ 0 → depthKnown ≡ true
-depth-held depthKnown c e =
-    let h = each-holds (codesKnown depthKnown c ∷ []) refl e 0 in
+pub depth-held : (depthKnown : Bool) (c : Codes) → codesKnown depthKnown c .holds ≡ true → depthKnown ≡ true
+depth-held depthKnown c h =
     let known = and-eq-true-iff (leb (c .order) 3) _ .0 h in
     let known′ = and-eq-true-iff (leb (c .range) 1) _ .0 (known .1) in
-    and-eq-true-iff (leb (c .matrix) 6) depthKnown .0 (known′ .1) .1
+    let known″ = and-eq-true-iff (leb (c .matrix) 6) _ .0 (known′ .1) in
+    and-eq-true-iff (leb (c .packing) (lastPacking (c .depth))) depthKnown .0 (known″ .1) .1
+
+-- the same where question 2 alone was asked
+pub depth-accepted : (depthKnown : Bool) (c : Codes) → verdict (codesKnown depthKnown c ∷ []) .number ≡ 0 → depthKnown ≡ true
+depth-accepted depthKnown c e = depth-held depthKnown c (each-holds (codesKnown depthKnown c ∷ []) refl e 0)

@@ -1,5 +1,5 @@
 -- Inside the picture the other row is the far row: where a luma row blends one chroma row only, near and far are the same.
--- Both rows are rows of the chroma planes.
+-- Both rows are rows of the chroma planes, neighbours or the same.
 -- Assumes nothing.
 use mathlib.Core.Path.{_≡_, refl, sym}
 use mathlib.Core.Bool.{Bool, true, false, cond}
@@ -67,3 +67,24 @@ pub other-row-below : (s : YuvChromaSubsampling) (height row : ℕ) → row < he
 unfolding otherRow
 other-row-below s height row inside =
     second-below (rowsOf s height row) _ _ (chromaHeight s height) (near-row-below s height row inside) (far-row-below s height row inside)
+
+-- they are neighbours or the same
+near-far-of-420 : (t : Bool) (height row : ℕ) → row < height
+    → cond t (row / 2) (nextRow height row) % 2 ≡ cond t (nextRow height row) (row / 2) % 2 → cond t (row / 2) (nextRow height row) ≡ cond t (nextRow height row) (row / 2)
+near-far-of-420 true height row inside e = omega arith
+near-far-of-420 false height row inside e = omega arith
+
+near-far : (s : YuvChromaSubsampling) (height row : ℕ) → row < height
+    → nearRow s height row % 2 ≡ farRow s height row % 2 → nearRow s height row ≡ farRow s height row
+unfolding nearRow farRow
+near-far Yuv420 height row inside e = near-far-of-420 (eqb (row % 2) 0) height row inside e
+near-far Yuv422 height row inside e = refl
+
+near-second : (n : Rows) (near far : ℕ) → (near % 2 ≡ far % 2 → near ≡ far) → near % 2 ≡ secondOf n near far % 2 → near ≡ secondOf n near far
+near-second one near far h e = refl
+near-second two near far h e = h e
+
+pub near-other : (s : YuvChromaSubsampling) (height row : ℕ) → row < height
+    → nearRow s height row % 2 ≡ otherRow s height row % 2 → nearRow s height row ≡ otherRow s height row
+unfolding otherRow
+near-other s height row inside e = near-second (rowsOf s height row) _ _ (near-far s height row inside) e

@@ -7,10 +7,9 @@ ghost use Prim.Native.Nat.{_+_, _*_, _≤_, _<_};
 ghost use lib.Dec.{T, leb};
 ghost use lib.ListN.{length};
 ghost use Rattle.yuv_support.specs.Settings.{among, depths};
-ghost use Rattle.yuv_support.specs.Coefficients.{usable};
 ghost use Rattle.yuv_support.specs.Blend.{chromaWidth, chromaHeight, nextRow, nearRow};
 ghost use Rattle.yuv_support.specs.Picture.{channelsOf};
-ghost use Rattle.yuv_support.specs.Questions.{verdict, ask, extent, samplingKnown, codesKnown, chromaPlanes, rowBelow, partOf, questionsOf, rowQuestions, chromaRowQuestions};
+ghost use Rattle.yuv_support.specs.Questions.{verdict, ask, extent, decoded, samplingKnown, codesKnown, chromaPlanes, weightsUsable, rowBelow, partOf, questionsOf, settingsQuestions, rowQuestions, chromaRowQuestions};
 ghost use Rattle.yuv_error.specs.Told.{told};
 ghost use Rattle.images.specs.Rows.{otherRow, chromaRows};
 ghost use Rattle.images.specs.Request.{requestOf, constraints};
@@ -18,9 +17,7 @@ use yuv_error::YuvError;
 use yuv_support::Codes;
 use yuv_support::YuvChromaSubsampling;
 use yuv_support::YuvPlanarImage;
-use yuv_support::YuvRange;
 use yuv_support::YuvSourceChannels;
-use yuv_support::YuvStandardMatrix;
 
 // How many elements the four buffers have.
 pub struct Lengths {
@@ -149,7 +146,7 @@ fn check_sampling(sampling: u32) -> YuvError
 }
 
 // Question 2 of a conversion.
-fn check_codes(codes: Codes, depth_known: bool) -> YuvError
+pub fn check_codes(codes: Codes, depth_known: bool) -> YuvError
     ensures { λ r. ⌜ told r ≡ verdict (codesKnown «depth_known» codes ∷ []) ⌝ }
 {
     if 3 < codes.order {
@@ -159,6 +156,9 @@ fn check_codes(codes: Codes, depth_known: bool) -> YuvError
         return YuvError::UnknownCode;
     }
     if 6 < codes.matrix {
+        return YuvError::UnknownCode;
+    }
+    if yuv_support::last_packing(codes.depth) < codes.packing {
         return YuvError::UnknownCode;
     }
     if depth_known {
@@ -226,11 +226,13 @@ fn check_constraints(
 }
 
 // Question 13.
-fn check_weights(depth: u32, range: YuvRange, matrix: YuvStandardMatrix) -> YuvError
-    requires { ⌜ T (among depth depths) ⌝ }
-    ensures { λ r. ⌜ told r ≡ verdict (ask 13 (usable depth range matrix) ∷ []) ⌝ }
+fn check_weights(codes: Codes) -> YuvError
+    requires { ⌜ T (among (codes .depth) depths) ⌝ }
+    ensures { λ r. ⌜ told r ≡ verdict (weightsUsable (decoded codes) ∷ []) ⌝ }
 {
-    let transform = inverse_transform::search_inverse_transform(depth, range, matrix);
+    let range = yuv_support::range_of(codes.range);
+    let matrix = yuv_support::matrix_of(codes.matrix, codes.kr, codes.kb);
+    let transform = inverse_transform::search_inverse_transform(codes.depth, range, matrix);
     if inverse_transform::is_usable(matrix, transform) {
         return YuvError::Accepted;
     }
@@ -279,9 +281,23 @@ pub fn check_conversion(
     if !yuv_error::is_accepted(planes) {
         return planes;
     }
-    let range = yuv_support::range_of(codes.range);
-    let matrix = yuv_support::matrix_of(codes.matrix, codes.kr, codes.kb);
-    check_weights(codes.depth, range, matrix)
+    check_weights(codes)
+}
+
+// The questions that concern the codes alone, with the depths of either element width: 1, 2 and 13.
+pub fn check_settings(codes: Codes) -> YuvError
+    ensures { λ r. ⌜ told r ≡ verdict (settingsQuestions (among (codes .depth) depths) codes) ⌝ }
+{
+    let sampled = check_sampling(codes.sampling);
+    if !yuv_error::is_accepted(sampled) {
+        return sampled;
+    }
+    let depth_known = yuv_support::is_depth(codes.depth);
+    let known = check_codes(codes, depth_known);
+    if !yuv_error::is_accepted(known) {
+        return known;
+    }
+    check_weights(codes)
 }
 
 // The questions of the finished row: 2 of the order code, 3 to 6, 14.

@@ -1,18 +1,23 @@
--- Rows of a frame's planes, lent as parts: a part's elements are the plane's samples, and the two chroma rows of a luma row, blended as two
--- rows, give what the definition blends, also where it blends one.
+-- Rows of a frame's planes, lent as parts: a part's elements, unpacked, are the plane's samples, and the two chroma rows of a luma row,
+-- blended as two rows, give what the definition blends, also where it blends one.
 -- Assumes nothing.
-use mathlib.Core.Path.{_≡_, refl, sym, _∙_}
+use mathlib.Core.Path.{_≡_, refl, sym, ap, _∙_}
 use mathlib.Core.Bool.{Bool, true, false}
 use mathlib.Core.List.{List}
 use Prim.Native.Nat.{ℕ, _+_, _-_, _*_, _/_, _≤_, _<_}
+use native.Mathlib.Nat.{le-trans}
 use native.Mathlib.Omega.{arith}
+use lib.Dec.{T}
 use lib.ListN.{length, getD}
+use Rattle.yuv_support.specs.declared.YuvBytesPacking.the-variants.{LeastSignificantBytes}
 use Rattle.yuv_support.specs.declared.Settings.{Settings}
+use Rattle.yuv_support.specs.Settings.{among, depths16, unpacked, samplesOf}
 use Rattle.yuv_support.specs.Coefficients.{coefficientsOf}
-use Rattle.yuv_support.specs.Blend.{Frame, Chroma, Cb, Cr, Rows, one, two, Place, left, right, tail, sixteenths, rowsOf, placeOf, nearRow, farRow, chromaWidth, chromaHeight, chromaSample, chroma16, rounded}
+use Rattle.yuv_support.specs.Blend.{Frame, Chroma, Cb, Cr, Rows, one, two, Place, left, right, tail, sixteenths, rowsOf, placeOf, nearRow, farRow, chromaWidth, chromaHeight, sample, lumaAt, chromaSample, chroma16, rounded}
 use Rattle.yuv_support.specs.Picture.{channelsOf, rowOf, elementOf}
 use Rattle.yuv_support.specs.Questions.{needed, partOf}
 use Rattle.yuv_support.proofs.Depths.{by-depth}
+use Rattle.yuv_support.proofs.Packing.{unpacked-le, samples-length, samples-at, low-samples}
 use Rattle.yuv_support.proofs.Rows.{row-fits, part-length, part-at}
 use Rattle.images.specs.declared.ChromaRows.{ChromaRows}
 use Rattle.images.specs.Rows.{secondOf, otherRow, chromaRows}
@@ -66,13 +71,31 @@ pub record PartsIn (f : Frame) (row : ℕ) (p : ChromaRows) : Type 0 where
   pub v-near : f .v-stride * p .near + p .columns ≤ length (f .v)
   pub v-other : f .v-stride * p .other + p .columns ≤ length (f .v)
 
--- the parts themselves
-pub record Parts (f : Frame) (row : ℕ) (p : ChromaRows) (y un uf vn vf : List ℕ) : Type 0 where
-  pub y-is : y ≡ partOf (f .y-stride) row (f .width) (f .y)
-  pub u-near : un ≡ partOf (f .u-stride) (p .near) (p .columns) (f .u)
-  pub u-other : uf ≡ partOf (f .u-stride) (p .other) (p .columns) (f .u)
-  pub v-near : vn ≡ partOf (f .v-stride) (p .near) (p .columns) (f .v)
-  pub v-other : vf ≡ partOf (f .v-stride) (p .other) (p .columns) (f .v)
+-- the parts themselves, each taken by `of`
+pub record PartsBy (of : List ℕ → List ℕ) (f : Frame) (row : ℕ) (p : ChromaRows) (y un uf vn vf : List ℕ) : Type 0 where
+  pub y-is : y ≡ of (partOf (f .y-stride) row (f .width) (f .y))
+  pub u-near : un ≡ of (partOf (f .u-stride) (p .near) (p .columns) (f .u))
+  pub u-other : uf ≡ of (partOf (f .u-stride) (p .other) (p .columns) (f .u))
+  pub v-near : vn ≡ of (partOf (f .v-stride) (p .near) (p .columns) (f .v))
+  pub v-other : vf ≡ of (partOf (f .v-stride) (p .other) (p .columns) (f .v))
+
+-- unpacked, so that they hold samples
+abbrev pub Parts : Settings → Frame → ℕ → ChromaRows → List ℕ → List ℕ → List ℕ → List ℕ → List ℕ → Type 0
+Parts s f row p y un uf vn vf = PartsBy (samplesOf (s .packing) (s .depth)) f row p y un uf vn vf
+
+-- as they were lent, which is the same in the low bits
+pub low-parts : (s : Settings) {f : Frame} {row : ℕ} {p : ChromaRows} {y un uf vn vf : List ℕ} → s .packing ≡ LeastSignificantBytes
+    → PartsBy (λ part. part) f row p y un uf vn vf → Parts s f row p y un uf vn vf
+low-parts s low lent = record {
+  y-is = lent .y-is ∙ same _;
+  u-near = lent .u-near ∙ same _;
+  u-other = lent .u-other ∙ same _;
+  v-near = lent .v-near ∙ same _;
+  v-other = lent .v-other ∙ same _;
+}
+  where
+    same : (part : List ℕ) → part ≡ samplesOf (s .packing) (s .depth) part
+    same part = rw low (low-samples (s .depth) part)
 
 -- of the chroma rows p that the code finds
 module _ {s : Settings} {f : Frame} {k : Kernel} (ready : Ready s f k) (row : ℕ) {p : ChromaRows} (inside : row < f .height)
@@ -97,7 +120,7 @@ module _ {s : Settings} {f : Frame} {k : Kernel} (ready : Ready s f k) (row : �
       chroma-in stride r size long below =
           rw columns-are (row-fits stride (chromaWidth (f .width)) (chromaHeight (s .sampling) (f .height)) r size long below)
 
-  module _ {y un uf vn vf : List ℕ} (parts : Parts f row p y un uf vn vf) (xs : List ℕ) (l : length xs ≡ f .width * channelsOf (s .order)) where
+  module _ {y un uf vn vf : List ℕ} (parts : Parts s f row p y un uf vn vf) (xs : List ℕ) (l : length xs ≡ f .width * channelsOf (s .order)) where
     pub parts-fit : OrderedFits (s .order) xs y un uf vn vf (f .width)
     parts-fit = record {
       some = ready .width-least;
@@ -110,8 +133,8 @@ module _ {s : Settings} {f : Frame} {k : Kernel} (ready : Ready s f k) (row : �
       v-far = rw (parts .v-other) (as-long (f .v-stride) (p .other) (p .columns) (f .v) (parts-in .v-other) columns-are);
     }
       where
-        as-long : (stride r n : ℕ) (plane : List ℕ) {m : ℕ} → stride * r + n ≤ length plane → n ≡ m → m ≤ length (partOf stride r n plane)
-        as-long stride r n plane h e = omega (arith, part-length stride r n plane h)
+        as-long : (stride r n : ℕ) (plane : List ℕ) {m : ℕ} → stride * r + n ≤ length plane → n ≡ m → m ≤ length (samplesOf (s .packing) (s .depth) (partOf stride r n plane))
+        as-long stride r n plane h e = omega (arith, part-length stride r n plane h, samples-length (s .packing) (s .depth) (partOf stride r n plane))
 
     -- the row that the row functions make of the parts is the row of the definition
     pub row-of-parts : ((i : ℕ) → getD (f .u) i 0 ≤ mostOf (s .depth)) → ((i : ℕ) → getD (f .v) i 0 ≤ mostOf (s .depth))
@@ -122,8 +145,8 @@ module _ {s : Settings} {f : Frame} {k : Kernel} (ready : Ready s f k) (row : �
         (row-is s f (ready .known) (ready .weights) small row (p .near) (p .other) blended y nears fars lasts luma-at near-at far-at last-at xs l)
       where
         small : (ch : Chroma) (r i : ℕ) → chromaSample s f ch r i ≤ mostOf (s .depth)
-        small Cb r i = hu (f .u-stride * r + i)
-        small Cr r i = hv (f .v-stride * r + i)
+        small Cb r i = le-trans (unpacked-le (s .packing) (s .depth) _) (hu (f .u-stride * r + i))
+        small Cr r i = le-trans (unpacked-le (s .packing) (s .depth) _) (hv (f .v-stride * r + i))
 
         blended : (ch : Chroma) (column : ℕ) → chroma16 s f ch row column
             ≡ sixteenths ch two (placeOf (f .width) column) (chromaSample s f ch (p .near) (column / 2)) (chromaSample s f ch (p .near) (column / 2 + 1))
@@ -139,21 +162,22 @@ module _ {s : Settings} {f : Frame} {k : Kernel} (ready : Ready s f k) (row : �
         lasts : Chroma → ℕ
         lasts ch = lastOf (f .width) ch (nears ch) (fars ch)
 
-        luma-at : (i : ℕ) → i < f .width → at y i ≡ getD (f .y) (f .y-stride * row + i) 0
-        luma-at i h = rw (parts .y-is) (part-at (f .y-stride) row (f .width) (f .y) i h)
+        -- sample i of a part of a plane
+        sample-at : {part : List ℕ} (stride r n : ℕ) (plane : List ℕ) → part ≡ samplesOf (s .packing) (s .depth) (partOf stride r n plane)
+            → (i : ℕ) → i < n → at part i ≡ sample s plane stride r i
+        sample-at stride r n plane e i h =
+            rw e (samples-at (s .packing) (s .depth) (partOf stride r n plane) i ∙ ap (unpacked (s .packing) (s .depth)) (part-at stride r n plane i h))
 
-        -- sample i of a part of a chroma plane
-        sample-at : {part : List ℕ} (stride r : ℕ) (plane : List ℕ) → part ≡ partOf stride r (p .columns) plane → (i : ℕ) → i < chromaWidth (f .width)
-            → at part i ≡ getD plane (stride * r + i) 0
-        sample-at stride r plane e i h = rw e (part-at stride r (p .columns) plane i (rw columns-are h))
+        luma-at : (i : ℕ) → i < f .width → at y i ≡ lumaAt s f row i
+        luma-at = sample-at (f .y-stride) row (f .width) (f .y) (parts .y-is)
 
         near-at : (ch : Chroma) (i : ℕ) → i < chromaWidth (f .width) → at (nears ch) i ≡ chromaSample s f ch (p .near) i
-        near-at Cb = sample-at (f .u-stride) (p .near) (f .u) (parts .u-near)
-        near-at Cr = sample-at (f .v-stride) (p .near) (f .v) (parts .v-near)
+        near-at Cb i h = sample-at (f .u-stride) (p .near) (p .columns) (f .u) (parts .u-near) i (rw columns-are h)
+        near-at Cr i h = sample-at (f .v-stride) (p .near) (p .columns) (f .v) (parts .v-near) i (rw columns-are h)
 
         far-at : (ch : Chroma) (i : ℕ) → i < chromaWidth (f .width) → at (fars ch) i ≡ chromaSample s f ch (p .other) i
-        far-at Cb = sample-at (f .u-stride) (p .other) (f .u) (parts .u-other)
-        far-at Cr = sample-at (f .v-stride) (p .other) (f .v) (parts .v-other)
+        far-at Cb i h = sample-at (f .u-stride) (p .other) (p .columns) (f .u) (parts .u-other) i (rw columns-are h)
+        far-at Cr i h = sample-at (f .v-stride) (p .other) (p .columns) (f .v) (parts .v-other) i (rw columns-are h)
 
         last-at : (ch : Chroma) → lasts ch ≡ rounded (tailOf ch (chromaSample s f ch (p .near) (chromaWidth (f .width) - 1)) (chromaSample s f ch (p .other) (chromaWidth (f .width) - 1)))
         last-at ch =
@@ -181,4 +205,11 @@ module _ {s : Settings} {f : Frame} {k : Kernel} (ready : Ready s f k) where
   unfolding offsetOf mostOf
   words-most b =
       by-depth (λ d. offsetOf d ≡ 262144 → mostOf d ≡ 65535) (λ e. absurd (omega arith)) (λ e. refl) (λ e. refl)
+      (s .depth) (ready .known) (sym offset-is ∙ b .offset)
+
+  -- a kernel of words is one of a u16 depth
+  pub words-depth : Words k → T (among (s .depth) depths16)
+  unfolding offsetOf
+  words-depth b =
+      by-depth (λ d. offsetOf d ≡ 262144 → T (among d depths16)) (λ e. absurd (omega arith)) (λ e. tt) (λ e. tt)
       (s .depth) (ready .known) (sym offset-is ∙ b .offset)

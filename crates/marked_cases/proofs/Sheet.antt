@@ -2,7 +2,7 @@
 -- Assumes nothing.
 use mathlib.Core.Path.{_≡_, refl}
 use lib.Ieee.{ofInt, mul, sub, div, le}
-use Rattle.yuv_support.specs.Settings.{maxOf, biasY, biasC, rangeY, rangeC, weightR, weightB, weightG, weightsOf}
+use Rattle.yuv_support.specs.Settings.{maxOf, biasY, biasC, rangeY, rangeC, unpacked, weightR, weightB, weightG, weightsOf}
 use Rattle.yuv_support.specs.Coefficients.{exactY, exactOuter, exactInner, storedOf, isStored, ratio, greenWeight, outer, inner, roundAway, integer, computedOf, coefficientsOf}
 use Rattle.yuv_support.specs.Blend.{chromaHeight, rowsOf, placeOf, nearRow, farRow, sixteenths, chroma16}
 use Rattle.yuv_support.specs.Component.{step, sumOf, quotientOf, componentOf, quotientAt, componentAt}
@@ -14,7 +14,7 @@ use Rattle.sheet_text.specs.Sheet.{hasNames, hasValues, valuesOf, restFormed, s
 use Rattle.marked_cases.specs.Sheet.{markedInput, markedOutput}
 
 pub marked-sheet : sheetOf markedInput ≡ markedOutput
-unfolding maxOf biasY biasC rangeY rangeC weightR weightB weightG weightsOf
+unfolding maxOf biasY biasC rangeY rangeC unpacked weightR weightB weightG weightsOf
     exactY exactOuter exactInner storedOf isStored ratio greenWeight outer inner roundAway integer computedOf coefficientsOf
     chromaHeight rowsOf placeOf nearRow farRow sixteenths chroma16 step sumOf quotientOf componentOf quotientAt componentAt
     ofInt mul sub div le verdict

@@ -11,6 +11,7 @@ use Rattle.yuv_support.specs.declared.YuvStandardMatrix.{YuvStandardMatrix}
 use Rattle.yuv_support.specs.declared.YuvStandardMatrix.the-variants.{Bt601, Bt709, Smpte240, Fcc, Custom}
 use Rattle.yuv_support.specs.declared.YuvChromaSubsampling.the-variants.{Yuv420}
 use Rattle.yuv_support.specs.declared.YuvSourceChannels.the-variants.{Rgb}
+use Rattle.yuv_support.specs.declared.YuvBytesPacking.the-variants.{LeastSignificantBytes}
 use Rattle.yuv_support.specs.declared.CbCrInverseTransform.{CbCrInverseTransform}
 use Rattle.yuv_support.specs.declared.Codes.{Codes}
 use Rattle.yuv_support.specs.declared.Settings.{Settings}
@@ -19,13 +20,14 @@ use Rattle.yuv_support.specs.Coefficients.{coefficientsOf}
 use Rattle.yuv_support.specs.Blend.{Chroma, Cb, Cr, one, two, left, right, tail, sixteenths, rounded, chromaWidth, chromaHeight}
 use Rattle.yuv_support.specs.Component.{R, G, B, componentOf}
 use Rattle.yuv_support.specs.Questions.{Verdict, accepted, refused, verdict, Request, extent, conversionQuestions}
+use Rattle.yuv_error.specs.Told.{asTold}
 use Rattle.sheet_text.specs.Sheet.{sheetOf}
 use Rattle.settings_used.specs.Used.{refusal, settingsUsedOf}
 use Rattle.marked_cases.specs.Sheet.{markedInput, markedOutput}
 
--- the settings of a depth, a range and a matrix; sampling and order have no part in a component
+-- the settings of a depth, a range and a matrix; sampling, order and packing have no part in a component of samples that are given
 abbrev pub setting : ℕ → YuvRange → YuvStandardMatrix → Settings
-setting d r m = record { depth = d; sampling = Yuv420; order = Rgb; range = r; matrix = m }
+setting d r m = record { depth = d; sampling = Yuv420; order = Rgb; range = r; matrix = m; packing = LeastSignificantBytes }
 
 -- R, G and B from Y, U and V
 abbrev pub pixel : Settings → ℕ → ℕ → ℕ → List ℕ
@@ -53,15 +55,26 @@ tenths n = round binary32 false n 10
 abbrev pub AtEachDepth : (ℕ → Type 0) → Type 0
 AtEachDepth P = P 8 × P 10 × P 12
 
--- Custom with both weights k gets number 13 at depth d, in either range
-abbrev pub Number13 : Float → ℕ → Type 0
-Number13 k d = (settingsUsedOf d 0 6 k k ≡ refusal (refused 13)) × (settingsUsedOf d 1 6 k k ≡ refusal (refused 13))
-
 -- ---- a conversion
 
--- bytes in full range, 4:2:0 to RGB, by a matrix's code and both weights k
-abbrev pub codes : ℕ → Float → Codes
-codes matrix k = record { depth = 8; sampling = 0; order = 0; range = 1; matrix = matrix; kr = k; kb = k }
+-- 4:2:0 to RGB, samples in the low bits, by depth, range and matrix, both weights being k
+abbrev pub codes : ℕ → ℕ → ℕ → Float → Codes
+codes depth range matrix k = record {
+  depth = depth;
+  sampling = 0;
+  order = 0;
+  range = range;
+  matrix = matrix;
+  packing = 0;
+  kr = k;
+  kb = k;
+}
+
+-- Custom with both weights k gets number 13 at depth d, in either range
+abbrev pub Number13 : Float → ℕ → Type 0
+Number13 k d =
+    (settingsUsedOf (codes d 0 6 k) ≡ refusal (asTold (refused 13)))
+    × (settingsUsedOf (codes d 1 6 k) ≡ refusal (asTold (refused 13)))
 
 -- strides and buffers just large enough for the sides
 abbrev pub request : Codes → ℕ → ℕ → Request
@@ -123,10 +136,10 @@ pub record Marked : Type 0 where
       AtEachDepth (λ d. coefficientsOf d Full (Custom (tenths 0) (tenths 0)) ≡ five 8192 16384 16384 0 0)
       × AtEachDepth (Number13 (tenths 4))
       × AtEachDepth (Number13 (tenths 5))
-      × (verdictOn (codes 6 (tenths 4)) 2 2 ≡ refused 13)
-      × (verdictOn (codes 6 (tenths 5)) 2 2 ≡ refused 13)
+      × (verdictOn (codes 8 1 6 (tenths 4)) 2 2 ≡ refused 13)
+      × (verdictOn (codes 8 1 6 (tenths 5)) 2 2 ≡ refused 13)
   -- "Sides 16,384 pass question 4; 16,385 do not"
   pub largest-sides :
-      (verdictOn (codes 0 (tenths 0)) 16384 16384 ≡ accepted)
-      × (verdictOn (codes 0 (tenths 0)) 16385 16384 ≡ refused 4)
-      × (verdictOn (codes 0 (tenths 0)) 16384 16385 ≡ refused 4)
+      (verdictOn (codes 8 1 0 (tenths 0)) 16384 16384 ≡ accepted)
+      × (verdictOn (codes 8 1 0 (tenths 0)) 16385 16384 ≡ refused 4)
+      × (verdictOn (codes 8 1 0 (tenths 0)) 16384 16385 ≡ refused 4)

@@ -1,10 +1,10 @@
 // Replays stored answers of the Rust through the public entries, and prints how many were compared and how many differ.
-// The list is the file `stdin` beside src/: a line of column names, then a line of 32 numbers for each call. tests/oracle made it by
+// The list is the file `stdin` beside src/: a line of column names, then a line of 33 numbers for each call. tests/oracle made it by
 // running the Rust: cargo run --offline --release --bin vectors.
-// Columns: 0 to 4 the codes; 5, 6 the bits of kr and kb; 7, 8 the sides; 9 to 12 the strides of Y, U, V and the destination; 13 to 16
-// their lengths; 17 to 19 how they are filled. Then what the Rust answered: 20 to 22 number, expected, received; 23 a sum over every
-// destination element after the call, kept ones included; 24 to 31 the settings used. The Rust has one name for questions 9 to 12:
-// there the number is that of the first "no".
+// Columns: 0 to 5 the codes; 6, 7 the bits of kr and kb; 8, 9 the sides; 10 to 13 the strides of Y, U, V and the destination; 14 to 17
+// their lengths; 18 to 20 how they are filled. Then what the Rust answered: 21 to 23 number, expected, received; 24 a sum over every
+// destination element after the call, kept ones included; 25 to 32 the settings used. The Rust has one name for questions 9 to 12:
+// there the number is that of the first "no". Samples in the high bits (packing 1) were divided for the Rust, and stand undivided here.
 ghost use Prim.Native.Nat.{_≤_};
 use libc::STDIN_FILENO;
 use libc::STDOUT_FILENO;
@@ -37,10 +37,10 @@ fn number(list: &[u8], from: usize) -> Column {
 }
 
 // The columns of a line, and the place after it.
-fn read_row(list: &[u8], from: usize, row: &mut [u64; 32]) -> usize {
+fn read_row(list: &[u8], from: usize, row: &mut [u64; 33]) -> usize {
     let mut at = from;
     let mut column: usize = 0;
-    while column < 32 {
+    while column < 33 {
         let n = number(list, at);
         row[column] = n.value;
         at = n.next;
@@ -61,25 +61,26 @@ fn weight(bits: u64) -> f32 {
     0.0
 }
 
-fn codes_of(row: &[u64; 32]) -> Codes {
+fn codes_of(row: &[u64; 33]) -> Codes {
     Codes {
         depth: narrow(row[0]),
         sampling: narrow(row[1]),
         order: narrow(row[2]),
         range: narrow(row[3]),
         matrix: narrow(row[4]),
-        kr: weight(row[5]),
-        kb: weight(row[6]),
+        packing: narrow(row[5]),
+        kr: weight(row[6]),
+        kb: weight(row[7]),
     }
 }
 
-fn image_of(row: &[u64; 32]) -> YuvPlanarImage {
+fn image_of(row: &[u64; 33]) -> YuvPlanarImage {
     YuvPlanarImage {
-        width: narrow(row[7]),
-        height: narrow(row[8]),
-        y_stride: narrow(row[9]),
-        u_stride: narrow(row[10]),
-        v_stride: narrow(row[11]),
+        width: narrow(row[8]),
+        height: narrow(row[9]),
+        y_stride: narrow(row[10]),
+        u_stride: narrow(row[11]),
+        v_stride: narrow(row[12]),
     }
 }
 
@@ -160,18 +161,18 @@ fn sum16(buffer: &[u16]) -> u64 {
 }
 
 // Whether an answer and the sum of the destination are those of the Rust.
-fn is_answer(row: &[u64; 32], answer: Told, sum: u64) -> bool {
-    answer.number == row[20]
-        && answer.expected == row[21]
-        && answer.received == row[22]
-        && sum == row[23]
+fn is_answer(row: &[u64; 33], answer: Told, sum: u64) -> bool {
+    answer.number == row[21]
+        && answer.expected == row[22]
+        && answer.received == row[23]
+        && sum == row[24]
 }
 
 // Whether the conversion of a line answers as the Rust did. The buffers have the lengths that the line says.
-fn replay8(row: &[u64; 32], y: &mut [u8], u: &mut [u8], v: &mut [u8], rgb: &mut [u8]) -> bool {
-    let after_y = fill8(y, row[17], row[18], row[19]);
-    let after_u = fill8(u, after_y, row[18], row[19]);
-    let after_v = fill8(v, after_u, row[18], row[19]);
+fn replay8(row: &[u64; 33], y: &mut [u8], u: &mut [u8], v: &mut [u8], rgb: &mut [u8]) -> bool {
+    let after_y = fill8(y, row[18], row[19], row[20]);
+    let after_u = fill8(u, after_y, row[19], row[20]);
+    let after_v = fill8(v, after_u, row[19], row[20]);
     fill8(rgb, after_v, 255, 0);
     let answer = yuv_to_rgba_bilinear::yuv_to_rgbx_bilinear(
         codes_of(row),
@@ -180,15 +181,15 @@ fn replay8(row: &[u64; 32], y: &mut [u8], u: &mut [u8], v: &mut [u8], rgb: &mut 
         u,
         v,
         rgb,
-        narrow(row[12]),
+        narrow(row[13]),
     );
     is_answer(row, yuv_error::told_of(answer), sum8(rgb))
 }
 
-fn replay16(row: &[u64; 32], y: &mut [u16], u: &mut [u16], v: &mut [u16], rgb: &mut [u16]) -> bool {
-    let after_y = fill16(y, row[17], row[18], row[19]);
-    let after_u = fill16(u, after_y, row[18], row[19]);
-    let after_v = fill16(v, after_u, row[18], row[19]);
+fn replay16(row: &[u64; 33], y: &mut [u16], u: &mut [u16], v: &mut [u16], rgb: &mut [u16]) -> bool {
+    let after_y = fill16(y, row[18], row[19], row[20]);
+    let after_u = fill16(u, after_y, row[19], row[20]);
+    let after_v = fill16(v, after_u, row[19], row[20]);
     fill16(rgb, after_v, 65535, 0);
     let answer = yuv_p16_to_rgba16_bilinear::yuv16_to_rgbx_bilinear(
         codes_of(row),
@@ -197,21 +198,21 @@ fn replay16(row: &[u64; 32], y: &mut [u16], u: &mut [u16], v: &mut [u16], rgb: &
         u,
         v,
         rgb,
-        narrow(row[12]),
+        narrow(row[13]),
     );
     is_answer(row, yuv_error::told_of(answer), sum16(rgb))
 }
 
 // The same, with room for the four buffers.
-fn is_same8(row: &[u64; 32]) -> bool {
+fn is_same8(row: &[u64; 33]) -> bool {
     let mut y = [0u8; 1024];
     let mut u = [0u8; 1024];
     let mut v = [0u8; 1024];
     let mut rgb = [0u8; 1024];
-    let y_length = held(row[13]);
-    let u_length = held(row[14]);
-    let v_length = held(row[15]);
-    let rgb_length = held(row[16]);
+    let y_length = held(row[14]);
+    let u_length = held(row[15]);
+    let v_length = held(row[16]);
+    let rgb_length = held(row[17]);
     replay8(
         row,
         &mut y[..y_length],
@@ -221,15 +222,15 @@ fn is_same8(row: &[u64; 32]) -> bool {
     )
 }
 
-fn is_same16(row: &[u64; 32]) -> bool {
+fn is_same16(row: &[u64; 33]) -> bool {
     let mut y = [0u16; 1024];
     let mut u = [0u16; 1024];
     let mut v = [0u16; 1024];
     let mut rgb = [0u16; 1024];
-    let y_length = held(row[13]);
-    let u_length = held(row[14]);
-    let v_length = held(row[15]);
-    let rgb_length = held(row[16]);
+    let y_length = held(row[14]);
+    let u_length = held(row[15]);
+    let v_length = held(row[16]);
+    let rgb_length = held(row[17]);
     replay16(
         row,
         &mut y[..y_length],
@@ -240,27 +241,21 @@ fn is_same16(row: &[u64; 32]) -> bool {
 }
 
 // Whether the settings used are those of the Rust.
-fn is_settings(row: &[u64; 32]) -> bool {
-    let s = settings_used::settings_used(
-        narrow(row[0]),
-        narrow(row[3]),
-        narrow(row[4]),
-        weight(row[5]),
-        weight(row[6]),
-    );
+fn is_settings(row: &[u64; 33]) -> bool {
+    let s = settings_used::settings_used(codes_of(row));
     s.number == 0
-        && s.max as u64 == row[24]
-        && s.bias_y as u64 == row[25]
-        && s.bias_uv as u64 == row[26]
-        && s.y as u64 == row[27]
-        && s.cr as u64 == row[28]
-        && s.cb as u64 == row[29]
-        && s.g1 as u64 == row[30]
-        && s.g2 as u64 == row[31]
+        && s.max as u64 == row[25]
+        && s.bias_y as u64 == row[26]
+        && s.bias_uv as u64 == row[27]
+        && s.y as u64 == row[28]
+        && s.cr as u64 == row[29]
+        && s.cb as u64 == row[30]
+        && s.g1 as u64 == row[31]
+        && s.g2 as u64 == row[32]
 }
 
 // 1 where a line's answer differs, else 0.
-fn different(row: &[u64; 32]) -> u64
+fn different(row: &[u64; 33]) -> u64
     ensures { λ r. ⌜ r ≤ 1 ⌝ }
 {
     if !is_settings(row) {
@@ -280,7 +275,7 @@ fn different(row: &[u64; 32]) -> u64
 
 // The names are read as a line that is not compared. A line takes at least a byte, so the list has no more lines than bytes.
 fn replay_all(list: &[u8]) {
-    let mut row = [0u64; 32];
+    let mut row = [0u64; 33];
     let mut at = read_row(list, 0, &mut row);
     let mut compared: u64 = 0;
     let mut differing: u64 = 0;

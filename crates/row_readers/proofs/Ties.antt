@@ -1,6 +1,6 @@
 -- The readers beside the conversion. Row r cut out of a painted buffer is the definition's row, place by place (`cell-at`). So after an accepted
 -- conversion the finished-row reader, asked with the same order, sides and stride, is accepted at each row below the height and hands back the
--- row of the definition. The near chroma row's elements are the samples that blending takes as near.
+-- row of the definition. The near chroma row's elements, unpacked, are the samples that blending takes as near.
 -- Assumes nothing.
 use mathlib.Core.Path.{_≡_, refl, sym, ap, _∙_}
 use mathlib.Core.Bool.{Bool, true, false, cond}
@@ -13,7 +13,7 @@ use lib.ListN.{length, getD}
 use Rattle.yuv_support.specs.declared.Codes.{Codes}
 use Rattle.yuv_support.specs.declared.Settings.{Settings}
 use Rattle.yuv_support.specs.declared.YuvPlanarImage.{YuvPlanarImage}
-use Rattle.yuv_support.specs.Settings.{samplingOf, orderOf}
+use Rattle.yuv_support.specs.Settings.{samplingOf, orderOf, unpacked}
 use Rattle.yuv_support.specs.Blend.{Frame, frameOf, Cb, Cr, chromaWidth, nearRow, sample, chromaSample}
 use Rattle.yuv_support.specs.Picture.{channelsOf, elementOf, rowOf, painted, band, picture}
 use Rattle.yuv_support.specs.Questions.{accepted, decoded, needed, partOf, rowQuestions, finishedRow, nearChromaRow}
@@ -99,20 +99,20 @@ module _ (known : List ℕ) (codes : Codes) (image : YuvPlanarImage) (y u v : Li
 -- ---- the near chroma row
 
 pub near-chroma-row-at : (s : Settings) (sampling width height stride row : ℕ) (plane : List ℕ) (column : ℕ) → column < chromaWidth width
-    → getD (nearChromaRow sampling width height stride row plane) column 0 ≡ sample s plane stride (nearRow (samplingOf sampling) height row) column
+    → unpacked (s .packing) (s .depth) (getD (nearChromaRow sampling width height stride row plane) column 0) ≡ sample s plane stride (nearRow (samplingOf sampling) height row) column
 unfolding nearChromaRow
-near-chroma-row-at s sampling width height stride row plane column h = part-at stride _ (chromaWidth width) plane column h
+near-chroma-row-at s sampling width height stride row plane column h = ap (unpacked (s .packing) (s .depth)) (part-at stride _ (chromaWidth width) plane column h)
 
--- an accepted part holds the near samples of a frame: Cb's for code 0, Cr's for code 1
+-- an accepted part holds the elements of a frame's near samples: Cb's for code 0, Cr's for code 1
 pub chroma-row-at : (s : Settings) (f : Frame) (sampling plane row column : ℕ)
     → chromaRowAnswer sampling plane (f .width) (f .height) (extentOf (f .u) (f .u-stride)) (extentOf (f .v) (f .v-stride)) row .number ≡ 0
     → column < chromaWidth (f .width)
-    → getD (chromaRowPart sampling plane (f .width) (f .height) (f .u) (f .u-stride) (f .v) (f .v-stride) row) column 0
+    → unpacked (s .packing) (s .depth) (getD (chromaRowPart sampling plane (f .width) (f .height) (f .u) (f .u-stride) (f .v) (f .v-stride) row) column 0)
     ≡ chromaSample s f (wanted plane Cb Cr) (nearRow (samplingOf sampling) (f .height) row) column
 unfolding chromaRowPart
 chroma-row-at s f sampling plane row column e h = rw (eq-eqb _ _ e) (by-code (eqb plane 0))
   where
-    by-code : (t : Bool) → getD (nearChromaRow sampling (f .width) (f .height) (cond t (f .u-stride) (f .v-stride)) row (cond t (f .u) (f .v))) column 0
+    by-code : (t : Bool) → unpacked (s .packing) (s .depth) (getD (nearChromaRow sampling (f .width) (f .height) (cond t (f .u-stride) (f .v-stride)) row (cond t (f .u) (f .v))) column 0)
         ≡ chromaSample s f (cond t Cb Cr) (nearRow (samplingOf sampling) (f .height) row) column
     by-code true = near-chroma-row-at s sampling (f .width) (f .height) (f .u-stride) row (f .u) column h
     by-code false = near-chroma-row-at s sampling (f .width) (f .height) (f .v-stride) row (f .v) column h

@@ -1,5 +1,6 @@
 // Prints the settings used for the 36 named settings, a line each: the codes, the verdict's number, M, the biases and the five coefficients.
 use libc::STDOUT_FILENO;
+use yuv_support::Codes;
 
 // A number and the space after it.
 fn put(n: u64) {
@@ -7,9 +8,18 @@ fn put(n: u64) {
     io::write_all(STDOUT_FILENO, b" ");
 }
 
-// The line of one setting. The weights count for Custom only, which has no name.
+// The line of one setting. Sampling, order and packing have no part in it, and the weights count for Custom only, which has no name.
 fn put_setting(depth: u32, range: u32, matrix: u32) {
-    let s = settings_used::settings_used(depth, range, matrix, 0.0, 0.0);
+    let s = settings_used::settings_used(Codes {
+        depth,
+        sampling: 0,
+        order: 0,
+        range,
+        matrix,
+        packing: 0,
+        kr: 0.0,
+        kb: 0.0,
+    });
     put(depth as u64);
     put(range as u64);
     put(matrix as u64);

@@ -1,22 +1,29 @@
--- The settings used: the verdict on questions 2 and 13, and where it is 0 the numbers of the setting.
+-- The settings used: the verdict on questions 1, 2 and 13, and where it is 0 the numbers of the setting.
 -- Definitions only.
 use Prim.Native.Nat.{ℕ}
+use mathlib.Core.Path.{_≡_}
 use mathlib.Core.Bool.{cond}
-use lib.Dec.{eqb}
-use lib.Ieee.{Float}
+use mathlib.Core.List.{List}
+use lib.Dec.{T, eqb}
 use Rattle.yuv_support.specs.declared.YuvRange.{YuvRange}
 use Rattle.yuv_support.specs.declared.CbCrInverseTransform.{CbCrInverseTransform}
-use Rattle.yuv_support.specs.Settings.{rangeOf, matrixOf, depths, maxOf, biasY, biasC}
+use Rattle.yuv_support.specs.declared.Codes.{Codes}
+use Rattle.yuv_support.specs.declared.Settings.{Settings}
+use Rattle.yuv_support.specs.declared.YuvPlanarImage.{YuvPlanarImage}
+use Rattle.yuv_support.specs.Settings.{among, depths, maxOf, biasY, biasC}
 use Rattle.yuv_support.specs.Coefficients.{coefficientsOf}
-use Rattle.yuv_support.specs.Questions.{Verdict, verdict, settingsQuestions}
+use Rattle.yuv_support.specs.Questions.{Verdict, verdict, decoded, settingsQuestions}
+use Rattle.yuv_support.specs.Conversion.{answerTo}
+use Rattle.yuv_error.specs.declared.Told.{Told}
+use Rattle.yuv_error.specs.Told.{asTold}
 use Rattle.settings_used.specs.declared.SettingsUsed.{SettingsUsed}
 
--- a "no": the verdict, and all eight values 0
-abbrev pub refusal : Verdict → SettingsUsed
-refusal v = record {
-  number = v .number;
-  expected = v .expected;
-  received = v .received;
+-- a "no", and all eight values 0
+abbrev pub refusal : Told → SettingsUsed
+refusal told = record {
+  number = told .number;
+  expected = told .expected;
+  received = told .received;
   max = 0;
   «bias_y» = 0;
   «bias_uv» = 0;
@@ -27,12 +34,12 @@ refusal v = record {
   g2 = 0;
 }
 
--- an accepted setting: the verdict, M, bY, bC and the five coefficients t
-abbrev pub answer : Verdict → ℕ → YuvRange → CbCrInverseTransform → SettingsUsed
-answer v d r t = record {
-  number = v .number;
-  expected = v .expected;
-  received = v .received;
+-- an accepted setting: M, bY, bC and the five coefficients t
+abbrev pub answer : ℕ → YuvRange → CbCrInverseTransform → SettingsUsed
+answer d r t = record {
+  number = 0;
+  expected = 0;
+  received = 0;
   max = maxOf d;
   «bias_y» = biasY d r;
   «bias_uv» = biasC d;
@@ -43,12 +50,18 @@ answer v d r t = record {
   g2 = t .g2;
 }
 
-abbrev pub judged : Verdict → ℕ → YuvRange → CbCrInverseTransform → SettingsUsed
-judged v d r t = cond (eqb (v .number) 0) (answer v d r t) (refusal v)
+abbrev pub numbersOf : Settings → SettingsUsed
+numbersOf s = answer (s .depth) (s .range) (coefficientsOf (s .depth) (s .range) (s .matrix))
 
-unfoldable pub settingsUsedOf : ℕ → ℕ → ℕ → Float → Float → SettingsUsed
-settingsUsedOf depth range matrix kr kb =
-    judged (verdict (settingsQuestions depth range matrix kr kb depths))
-    depth
-    (rangeOf range)
-    (coefficientsOf depth (rangeOf range) (matrixOf matrix kr kb))
+abbrev pub judged : Verdict → Settings → SettingsUsed
+judged v s = cond (eqb (v .number) 0) (numbersOf s) (refusal (asTold v))
+
+unfoldable pub settingsUsedOf : Codes → SettingsUsed
+settingsUsedOf c = judged (verdict (settingsQuestions (among (c .depth) depths) c)) (decoded c)
+
+-- an accepted conversion has its settings used, by the very codes
+abbrev pub ConvertedHas : Type 0
+ConvertedHas =
+    (known : List ℕ) → ((d : ℕ) → T (among d known) → T (among d depths))
+    → (codes : Codes) (image : YuvPlanarImage) (y u v : List ℕ) (stride : ℕ) (rgb : List ℕ)
+    → answerTo known codes image y u v stride rgb .number ≡ 0 → settingsUsedOf codes ≡ numbersOf (decoded codes)

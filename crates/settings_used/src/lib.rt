@@ -1,11 +1,12 @@
 // The numbers that a conversion with given codes and weights works with: M, the biases and the five coefficients.
-// Nothing is asked of the caller: question 2 for the depth, the range and the matrix, then question 13, and a "no" is the answer.
+// Nothing is asked of the caller: questions 1, 2 and 13, with the depths of either element width, and a "no" is the answer.
 ghost use mathlib.Core.Path.{_≡_};
 ghost use lib.Dec.{T};
 ghost use Rattle.yuv_support.specs.Settings.{among, depths};
-ghost use Rattle.yuv_support.specs.Questions.{accepted, refused};
 ghost use Rattle.settings_used.specs.Used.{refusal, answer, settingsUsedOf};
+use yuv_error::Told;
 use yuv_support::CbCrInverseTransform;
+use yuv_support::Codes;
 use yuv_support::YuvRange;
 
 // The verdict, then M, bY and bC, then the coefficients times 8192. On a "no" all after the verdict are 0.
@@ -24,14 +25,14 @@ pub struct SettingsUsed {
     pub g2: u32,
 }
 
-// The answer to a "no" of the question with this number.
-fn refused(number: u64) -> SettingsUsed
-    ensures { λ r. ⌜ r ≡ refusal (refused number) ⌝ }
+// The answer to a "no".
+fn refused(told: Told) -> SettingsUsed
+    ensures { λ r. ⌜ r ≡ refusal told ⌝ }
 {
     SettingsUsed {
-        number,
-        expected: 0,
-        received: 0,
+        number: told.number,
+        expected: told.expected,
+        received: told.received,
         max: 0,
         bias_y: 0,
         bias_uv: 0,
@@ -46,7 +47,7 @@ fn refused(number: u64) -> SettingsUsed
 // The answer to an accepted setting whose coefficients are t.
 fn used(depth: u32, range: YuvRange, t: CbCrInverseTransform) -> SettingsUsed
     requires { ⌜ T (among depth depths) ⌝ }
-    ensures { λ r. ⌜ r ≡ answer accepted depth range t ⌝ }
+    ensures { λ r. ⌜ r ≡ answer depth range t ⌝ }
 {
     let max = yuv_support::max_of(depth);
     let chroma = yuv_support::get_yuv_range(depth, range);
@@ -65,24 +66,16 @@ fn used(depth: u32, range: YuvRange, t: CbCrInverseTransform) -> SettingsUsed
     }
 }
 
-// The depth is in bits, range and matrix are codes; kr and kb count for Custom only. Any five values have an answer.
-pub fn settings_used(depth: u32, range: u32, matrix: u32, kr: f32, kb: f32) -> SettingsUsed
-    ensures { λ r. ⌜ r ≡ settingsUsedOf depth range matrix kr kb ⌝ }
+// Any codes and weights have an answer. A conversion that is accepted has its settings used.
+pub fn settings_used(codes: Codes) -> SettingsUsed
+    ensures { λ r. ⌜ r ≡ settingsUsedOf codes ⌝ }
 {
-    if 1 < range {
-        return refused(2);
+    let answer = images::check_settings(codes);
+    if !yuv_error::is_accepted(answer) {
+        return refused(yuv_error::told_of(answer));
     }
-    if 6 < matrix {
-        return refused(2);
-    }
-    if !yuv_support::is_depth(depth) {
-        return refused(2);
-    }
-    let r = yuv_support::range_of(range);
-    let m = yuv_support::matrix_of(matrix, kr, kb);
-    let t = inverse_transform::search_inverse_transform(depth, r, m);
-    if !inverse_transform::is_usable(m, t) {
-        return refused(13);
-    }
-    used(depth, r, t)
+    let range = yuv_support::range_of(codes.range);
+    let matrix = yuv_support::matrix_of(codes.matrix, codes.kr, codes.kb);
+    let t = inverse_transform::search_inverse_transform(codes.depth, range, matrix);
+    used(codes.depth, range, t)
 }

@@ -10,12 +10,12 @@ use native.Mathlib.Omega.{arith}
 use borrow.Author.Tests.{le-leb, eq-eqb, ne-eqb}
 use lib.Dec.{T}
 use lib.ListN.{length, take, getD}
-use lib.Seq.{length-take-le, take-all}
+use lib.Seq.{length-take-le}
 use Rattle.yuv_support.specs.declared.YuvRange.{YuvRange}
 use Rattle.yuv_support.specs.declared.YuvSourceChannels.{YuvSourceChannels}
 use Rattle.yuv_support.specs.declared.Codes.{Codes}
 use Rattle.yuv_support.specs.declared.YuvPlanarImage.{YuvPlanarImage}
-use Rattle.yuv_support.specs.Settings.{samplingOf, orderOf, rangeOf, matrixOf, among, depths, depths8, depths16}
+use Rattle.yuv_support.specs.Settings.{samplingOf, orderOf, rangeOf, matrixOf, lastPacking, among, depths, depths8, depths16}
 use Rattle.yuv_support.specs.Coefficients.{usable}
 use Rattle.yuv_support.specs.Blend.{frameOf, chromaWidth, chromaHeight}
 use Rattle.yuv_support.specs.Picture.{channelsOf, picture, band}
@@ -75,6 +75,7 @@ module _ {known : List ℕ} {v : Values} (fit : Fit known v) where
           le-leb _ _ (fit .order),
           le-leb _ _ (fit .range),
           le-leb (v .matrix) 6 (omega (arith, fit .matrix)),
+          le-leb 0 (lastPacking (v .depth)) (omega arith),
           passed (among (v .depth) known) (fit .depth),
           le-leb _ _ (fit .width-least),
           le-leb _ _ (fit .height-least),
@@ -161,11 +162,6 @@ module _ {known : List ℕ} {v : Values} {y u w : List ℕ} {n m : ℕ} {Y U W :
       let p : new ≡ destinationAfter known (codesOf v) (imageOf v) (take n y) (take m u) (take m w) (strideOf (orderOf (v .order)) (v .width)) old =
       e ∙ rw (ec, ei, es, eo, d .luma, d .cb, d .cr) refl in
       rw (← d .luma-count, ← d .chroma-count) (small-shows (d .fit) (take n y) (take m u) (take m w) old ly lu lw lo new p)
-
--- two lists of n elements whose first n are the same
-pub whole-same : (n : ℕ) (a b : List ℕ) → length a ≡ n → length b ≡ n → take n a ≡ take n b → a ≡ b
-whole-same n a b la lb e =
-    sym (take-all n a (let h : length a ≤ n = omega arith in h)) ∙ e ∙ take-all n b (let h : length b ≤ n = omega arith in h)
 
 -- ---- the two element widths
 

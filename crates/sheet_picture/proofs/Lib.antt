@@ -1,2 +1,1 @@
-pub mod Copy
 pub mod Converted

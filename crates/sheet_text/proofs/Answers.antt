@@ -9,7 +9,7 @@ use borrow.Author.Tests.{leb-true, le-leb, lt-leb, eqb-true}
 use lib.Dec.{T, leb, eqb, lit<}
 use lib.ListN.{length, getD}
 use lib.Seq.{sets}
-use Rattle.yuv_support.specs.Settings.{among, depths}
+use Rattle.yuv_support.specs.Settings.{lastPacking, among, depths}
 use Rattle.yuv_support.specs.Questions.{ask, verdict, decoded, codesKnown}
 use Rattle.yuv_support.proofs.Tests.{passed}
 use Rattle.sheet_writing.specs.Text.{Wrote}
@@ -53,12 +53,13 @@ small-fits {v} e hs k =
     let a = and-eq-true-iff (leb (v .order) 3) _ .0 p in
     let b = and-eq-true-iff (leb (v .range) 1) _ .0 (a .1) in
     let c = and-eq-true-iff (leb (v .matrix) 6) _ .0 (b .1) in
+    let d = and-eq-true-iff (leb 0 (lastPacking (v .depth))) _ .0 (c .1) in
     record {
       sampling = hs;
       order = leb-true _ _ (a .0);
       range = leb-true _ _ (b .0);
       matrix = t .4;
-      depth = subst⁻¹ T (c .1) tt;
+      depth = subst⁻¹ T (d .1) tt;
       width-least = t .0;
       width = t .1;
       height-least = t .2;

@@ -1,14 +1,12 @@
 -- The definitions' tests one by one, as the code makes them: what a test answers where those before it passed.
 -- Assumes nothing.
 use mathlib.Core.Path.{_≡_}
-use mathlib.Core.Bool.{Bool, false}
+use mathlib.Core.Bool.{false}
 use Prim.Native.Nat.{_≤_, _<_}
 use borrow.Author.Tests.{le-leb, lt-leb, eq-eqb, ne-eqb}
 use lib.Dec.{leb}
-use Rattle.yuv_support.specs.Settings.{among, depths}
-use Rattle.yuv_support.specs.Questions.{codesKnown}
 use Rattle.sheet_values.specs.declared.Values.{Values}
-use Rattle.sheet_values.specs.Values.{codesOf, widest, isSmall}
+use Rattle.sheet_values.specs.Values.{widest, isSmall}
 
 module _ (v : Values) where
   -- ---- the element's width
@@ -18,23 +16,6 @@ module _ (v : Values) where
 
   pub of-u16 : (v .depth ≡ 8 → ⊥) → 65535 ≡ widest v
   of-u16 h = rw (ne-eqb (v .depth) 8 h)
-
-  -- ---- question 2
-
-  abbrev known : Bool
-  known = codesKnown (among (v .depth) depths) (codesOf v) .holds
-
-  pub order-unknown : 3 < v .order → false ≡ known
-  order-unknown h = rw (lt-leb (v .order) 3 h)
-
-  pub range-unknown : v .order ≤ 3 → 1 < v .range → false ≡ known
-  range-unknown o h = rw (le-leb (v .order) 3 o, lt-leb (v .range) 1 h)
-
-  pub matrix-unknown : v .order ≤ 3 → v .range ≤ 1 → 6 < v .matrix → false ≡ known
-  matrix-unknown o r h = rw (le-leb (v .order) 3 o, le-leb (v .range) 1 r, lt-leb (v .matrix) 6 h)
-
-  pub depth-asked : v .order ≤ 3 → v .range ≤ 1 → v .matrix ≤ 6 → among (v .depth) depths ≡ known
-  depth-asked o r m = rw (le-leb (v .order) 3 o, le-leb (v .range) 1 r, le-leb (v .matrix) 6 m)
 
   -- ---- sides and matrix
 

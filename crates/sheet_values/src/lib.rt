@@ -42,6 +42,7 @@ pub fn codes_of(v: Values) -> Codes
         order: v.order,
         range: v.range,
         matrix: v.matrix,
+        packing: 0,
         kr: 0.0,
         kb: 0.0,
     }
@@ -93,16 +94,8 @@ pub fn widest_of(v: Values) -> u32
 pub fn is_known(v: Values) -> bool
     ensures { λ r. ⌜ r ≡ codesKnown (among (v .depth) depths) (codesOf v) .holds ⌝ }
 {
-    if 3 < v.order {
-        return false;
-    }
-    if 1 < v.range {
-        return false;
-    }
-    if 6 < v.matrix {
-        return false;
-    }
-    yuv_support::is_depth(v.depth)
+    let depth_known = yuv_support::is_depth(v.depth);
+    yuv_error::is_accepted(images::check_codes(codes_of(v), depth_known))
 }
 
 // Whether sides and matrix are those of a sheet, which question 15 asks.

@@ -1,16 +1,17 @@
-// Planar Y, Cb, Cr with u16 samples of 10 or 12 bits to RGB, RGBA, BGRA or BGR, with bilinear chroma: the public conversion.
+// Planar Y, Cb, Cr with u16 samples of 10 or 12 bits, in the low or in the high bits, to RGB, RGBA, BGRA or BGR, with bilinear chroma: the public conversion.
 // Nothing is asked of the caller. A call that a question refuses changes no buffer; an accepted one leaves the finished picture.
 ghost use mathlib.Core.Path.{_≡_};
 ghost use Rattle.yuv_support.specs.Settings.{depths16, among};
 ghost use Rattle.yuv_support.specs.Blend.{frameOf};
 ghost use Rattle.yuv_support.specs.Picture.{picture};
 ghost use Rattle.yuv_support.specs.Questions.{decoded};
-ghost use Rattle.yuv_support.specs.Distance.{WithinDepth};
+ghost use Rattle.yuv_support.specs.Distance.{WithinIfLow};
 ghost use Rattle.yuv_support.specs.Conversion.{answerTo, destinationAfter, Demand3After};
 ghost use Rattle.yuv_error.specs.Told.{told};
 use images::Lengths;
 use yuv_error::YuvError;
 use yuv_support::Codes;
+use yuv_support::YuvBytesPacking;
 use yuv_support::YuvPlanarImage;
 
 // Whether a depth is known with u16 planes.
@@ -38,11 +39,21 @@ fn convert(
 {
     let s = yuv_support::decode(codes);
     let k = kernel::settings_kernel(s);
-    convert16::convert_rows(rgb, y, u, v, s, image, rgb_stride, k, 0, image.height);
+    let height = image.height;
+    let packing = s.packing;
+    match packing {
+        YuvBytesPacking::LeastSignificantBytes => {
+            convert16::convert_rows(rgb, y, u, v, s, image, rgb_stride, k, 0, height);
+        }
+        YuvBytesPacking::MostSignificantBytes => {
+            convert_high16::convert_rows(rgb, y, u, v, s, image, rgb_stride, k, 0, height);
+        }
+    }
 }
 
 // Codes, sides and strides are judged with the lengths of the four buffers by questions 1 to 13, in that order; the first "no" is the
-// answer. Strides count elements. Buffers may be longer than needed; what is not a pixel is kept.
+// answer. Strides count elements. Buffers may be longer than needed; what is not a pixel is kept. Demand 3's distance asks that samples in the
+// low bits lie within the depth, and nothing of samples in the high bits.
 pub fn yuv16_to_rgbx_bilinear(
     codes: Codes,
     image: YuvPlanarImage,
@@ -54,7 +65,7 @@ pub fn yuv16_to_rgbx_bilinear(
 ) -> YuvError
     ensures { λ r. ⌜ told r ≡ answerTo depths16 codes image (now (y .entry)) (now (u .entry)) (now (v .entry)) «rgb_stride» (now (rgb .entry)) ⌝ }
     ensures { λ r. ⌜ now (rgb .exit) ≡ destinationAfter depths16 codes image (now (y .entry)) (now (u .entry)) (now (v .entry)) «rgb_stride» (now (rgb .entry)) ⌝ }
-    ensures { λ r. ⌜ Demand3After WithinDepth depths16 codes image (now (y .entry)) (now (u .entry)) (now (v .entry)) «rgb_stride» (now (rgb .entry)) (now (rgb .exit)) ⌝ }
+    ensures { λ r. ⌜ Demand3After WithinIfLow depths16 codes image (now (y .entry)) (now (u .entry)) (now (v .entry)) «rgb_stride» (now (rgb .entry)) (now (rgb .exit)) ⌝ }
 {
     let lengths = Lengths {
         y: y.len() as u64,

@@ -4,6 +4,7 @@
 use mathlib.Core.Path.{_≡_, refl}
 use mathlib.Core.List.{List}
 use Prim.Native.Nat.{ℕ, _+_, _*_, _≤_}
+use native.Mathlib.Nat.{le-trans}
 use native.Mathlib.Omega.{arith}
 use borrow.Author.Tests.{eq-eqb}
 use lib.Dec.{T}
@@ -11,7 +12,7 @@ use lib.ListN.{length, getD}
 use Rattle.yuv_support.specs.declared.Codes.{Codes}
 use Rattle.yuv_support.specs.declared.Settings.{Settings}
 use Rattle.yuv_support.specs.declared.YuvPlanarImage.{YuvPlanarImage}
-use Rattle.yuv_support.specs.Settings.{among, depths, depths8, depths16, maxOf}
+use Rattle.yuv_support.specs.Settings.{among, depths, depths8, depths16, maxOf, unpacked}
 use Rattle.yuv_support.specs.Blend.{Frame, frameOf}
 use Rattle.yuv_support.specs.Picture.{channelsOf, picture}
 use Rattle.yuv_support.specs.Questions.{decoded, needed}
@@ -19,6 +20,7 @@ use Rattle.yuv_support.specs.Distance.{measured, WithinDepth}
 use Rattle.yuv_support.specs.Conversion.{requestFor, answerTo, destinationAfter, Demand3, Demand3After}
 use Rattle.yuv_support.proofs.Depths.{each-among}
 use Rattle.yuv_support.proofs.Distance.{component-close}
+use Rattle.yuv_support.proofs.Packing.{unpacked-le}
 use Rattle.yuv_support.proofs.Rows.{row-fits}
 use Rattle.yuv_support.proofs.Picture.{ComponentsClose, pixel-in, picture-kept, band-length, faithful-picture}
 use Rattle.yuv_support.proofs.Questions.{Accepted, accepted-facts}
@@ -47,13 +49,16 @@ finished s f stride rgb fits long close = record {
 pub bytes-within : (s : Settings) (f : Frame) → T (among (s .depth) depths8)
     → ((i : ℕ) → getD (f .y) i 0 ≤ 255) → ((i : ℕ) → getD (f .u) i 0 ≤ 255) → ((i : ℕ) → getD (f .v) i 0 ≤ 255) → WithinDepth s f
 unfolding maxOf
-bytes-within s f d y u v =
-    let max : 255 ≡ maxOf (s .depth) = each-among (λ d. 255 ≡ maxOf d) depths8 (refl, tt) (s .depth) d in
-    record {
-      y = λ row column hr hc. rw max at (y (f .y-stride * row + column));
-      u = λ row column hr hc. rw max at (u (f .u-stride * row + column));
-      v = λ row column hr hc. rw max at (v (f .v-stride * row + column));
-    }
+bytes-within s f d y u v = record {
+  y = λ row column hr hc. byte (y (f .y-stride * row + column));
+  u = λ row column hr hc. byte (u (f .u-stride * row + column));
+  v = λ row column hr hc. byte (v (f .v-stride * row + column));
+}
+  where
+    byte : {x : ℕ} → x ≤ 255 → unpacked (s .packing) (s .depth) x ≤ maxOf (s .depth)
+    byte {x} h =
+        let max : 255 ≡ maxOf (s .depth) = each-among (λ d. 255 ≡ maxOf d) depths8 (refl, tt) (s .depth) d in
+        rw max at (le-trans (unpacked-le (s .packing) (s .depth) x) h)
 
 module _ (known : List ℕ) (within : (d : ℕ) → T (among d known) → T (among d depths)) (codes : Codes) (image : YuvPlanarImage)
     (y u v : List ℕ) (stride : ℕ) (rgb : List ℕ) where

@@ -5,6 +5,8 @@ pub mod Blend
 pub mod Coefficients
 pub mod Rounding
 pub mod Distance
+pub mod Packing
+pub mod Copy
 pub mod Overlay
 pub mod Rows
 pub mod Picture

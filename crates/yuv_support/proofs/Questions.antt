@@ -6,10 +6,10 @@ use mathlib.Core.Bool.{Bool, true, false, cond, _&&_, and-eq-true-iff}
 use mathlib.Core.List.{List, [], _∷_, _++_}
 use Prim.Native.Nat.{ℕ, zero, suc, _*_, _≤_}
 use native.Mathlib.Omega.{arith}
-use borrow.Author.Tests.{leb-true, ltb-true}
-use lib.Dec.{T, leb, ltb}
+use borrow.Author.Tests.{leb-true, ltb-true, ne-eqb}
+use lib.Dec.{T, eqb, leb, ltb}
 use lib.ListN.{getD}
-use Rattle.yuv_support.specs.Settings.{samplingOf, orderOf, rangeOf, matrixOf, among}
+use Rattle.yuv_support.specs.Settings.{samplingOf, orderOf, rangeOf, matrixOf, lastPacking, among}
 use Rattle.yuv_support.specs.Coefficients.{usable}
 use Rattle.yuv_support.specs.Blend.{chromaWidth, chromaHeight}
 use Rattle.yuv_support.specs.Picture.{channelsOf}
@@ -44,6 +44,15 @@ unfolding verdict
 all-hold-accepted [] h = refl
 all-hold-accepted (q ∷ qs) h = rw (h 0) (all-hold-accepted qs (λ k. h (suc k)))
 
+-- of one question
+pub one-accepted : (q : Question) → ltb 0 (q .number) ≡ true → eqb (verdict (q ∷ []) .number) 0 ≡ q .holds
+unfolding verdict
+one-accepted q p = by-answer (q .holds)
+  where
+    by-answer : (t : Bool) → eqb (cond t accepted (record { number = q .number; expected = q .expected; received = q .received }) .number) 0 ≡ t
+    by-answer true = refl
+    by-answer false = ne-eqb (q .number) 0 (λ e. absurd (omega (arith, ltb-true 0 (q .number) p)))
+
 -- the second list is asked where the first is accepted
 pub verdict-append-accepted : (a b : List Question) → numbered a ≡ true → verdict a .number ≡ 0 → verdict (a ++ b) ≡ verdict b
 unfolding verdict
@@ -71,6 +80,7 @@ pub record Accepted (known : List ℕ) (q : Request) : Type 0 where
   pub order : q .codes .order ≤ 3
   pub range : q .codes .range ≤ 1
   pub matrix : q .codes .matrix ≤ 6
+  pub packing : q .codes .packing ≤ lastPacking (q .codes .depth)
   pub depth : T (among (q .codes .depth) known)
   pub width-least : 1 ≤ q .image .width
   pub height-least : 1 ≤ q .image .height
@@ -94,6 +104,7 @@ accepted-facts known q e =
     let codes = and-eq-true-iff (leb (q .codes .order) 3) _ .0 (h 1) in
     let codes′ = and-eq-true-iff (leb (q .codes .range) 1) _ .0 (codes .1) in
     let codes″ = and-eq-true-iff (leb (q .codes .matrix) 6) _ .0 (codes′ .1) in
+    let codes‴ = and-eq-true-iff (leb (q .codes .packing) (lastPacking (q .codes .depth))) _ .0 (codes″ .1) in
     let least = and-eq-true-iff (leb 1 (q .image .width)) _ .0 (h 2) in
     let most = and-eq-true-iff (leb (q .image .width) 16384) _ .0 (h 3) in
     record {
@@ -101,7 +112,8 @@ accepted-facts known q e =
       order = leb-true _ _ (codes .0);
       range = leb-true _ _ (codes′ .0);
       matrix = leb-true _ _ (codes″ .0);
-      depth = subst⁻¹ T (codes″ .1) tt;
+      packing = leb-true _ _ (codes‴ .0);
+      depth = subst⁻¹ T (codes‴ .1) tt;
       width-least = leb-true _ _ (least .0);
       height-least = leb-true _ _ (least .1);
       width-most = leb-true _ _ (most .0);

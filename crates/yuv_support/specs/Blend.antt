@@ -9,6 +9,7 @@ use Rattle.yuv_support.specs.declared.YuvChromaSubsampling.{YuvChromaSub
 use Rattle.yuv_support.specs.declared.YuvChromaSubsampling.the-variants.{Yuv420, Yuv422}
 use Rattle.yuv_support.specs.declared.Settings.{Settings}
 use Rattle.yuv_support.specs.declared.YuvPlanarImage.{YuvPlanarImage}
+use Rattle.yuv_support.specs.Settings.{unpacked}
 
 -- the sides of a picture, and its planes with their strides
 pub record Frame : Type 0 where
@@ -47,7 +48,7 @@ strideOf Cr f = f .v-stride
 
 -- the sample at a row and a column of a plane. Every sample is read here; the settings say how it is packed.
 abbrev pub sample : Settings → List ℕ → ℕ → ℕ → ℕ → ℕ
-sample s plane stride row column = getD plane (stride * row + column) 0
+sample s plane stride row column = unpacked (s .packing) (s .depth) (getD plane (stride * row + column) 0)
 
 -- chroma width and chroma height
 abbrev pub chromaWidth : ℕ → ℕ

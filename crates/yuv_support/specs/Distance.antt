@@ -1,17 +1,19 @@
 -- Document 01, "The words of demand 3": the exact equations in whole numbers, and how far a component lies from its own.
 -- Conversion has the whole claim.
 -- Definitions only.
+use mathlib.Core.Path.{_≡_}
 use Prim.Native.Nat.{ℕ, _+_, _-_, _*_, _≤_, _<_}
 use mathlib.Core.Bool.{Bool, true, false, cond}
 use mathlib.Core.List.{List}
-use lib.Dec.{eqb}
+use lib.Dec.{T, eqb}
 use lib.IntN.{ℤ, _+ℤ_, _-ℤ_}
 use lib.ListN.{getD}
 use Rattle.yuv_support.specs.declared.YuvRange.{YuvRange}
 use Rattle.yuv_support.specs.declared.YuvStandardMatrix.{YuvStandardMatrix}
 use Rattle.yuv_support.specs.declared.YuvStandardMatrix.the-variants.{Bt601, Bt709, Bt2020, Smpte240, Bt470_6, Fcc, Custom}
+use Rattle.yuv_support.specs.declared.YuvBytesPacking.the-variants.{LeastSignificantBytes, MostSignificantBytes}
 use Rattle.yuv_support.specs.declared.Settings.{Settings}
-use Rattle.yuv_support.specs.Settings.{maxOf, biasY, biasC, rangeY, rangeC, weightR, weightB, weightG}
+use Rattle.yuv_support.specs.Settings.{among, depths16, maxOf, biasY, biasC, rangeY, rangeC, weightR, weightB, weightG}
 use Rattle.yuv_support.specs.Blend.{Frame, Cb, Cr, sample, chromaWidth, chromaHeight, lumaAt, chroma16}
 use Rattle.yuv_support.specs.Component.{Component, R, G, B, step, clamp}
 use Rattle.yuv_support.specs.Picture.{placeIn, pixelBegin}
@@ -84,9 +86,23 @@ pub record WithinDepth (s : Settings) (f : Frame) : Type 0 where
   pub u : PlaneWithin s (f .u) (f .u-stride) (chromaWidth (f .width)) (chromaHeight (s .sampling) (f .height))
   pub v : PlaneWithin s (f .v) (f .v-stride) (chromaWidth (f .width)) (chromaHeight (s .sampling) (f .height))
 
--- nothing is asked of the samples
+-- ---- what is asked of the samples
+
+-- of bytes, nothing
 abbrev pub AnySamples : Settings → Frame → Type 0
 AnySamples s f = Unit {0}
+
+-- of u16 samples, to lie within the depth where they stand in the low bits, and else nothing
+abbrev pub WithinIfLow : Settings → Frame → Type 0
+WithinIfLow s f = s .packing ≡ LeastSignificantBytes → WithinDepth s f
+
+-- in the high bits they lie within the depth, whatever the elements of the planes are
+abbrev pub HighWithin : Type 0
+HighWithin =
+    (s : Settings) (f : Frame) → s .packing ≡ MostSignificantBytes → T (among (s .depth) depths16)
+    → ((i : ℕ) → getD (f .y) i 0 ≤ 65535) → ((i : ℕ) → getD (f .u) i 0 ≤ 65535) → ((i : ℕ) → getD (f .v) i 0 ≤ 65535) → WithinDepth s f
+
+-- ---- the destination
 
 -- the destination's element that holds a component of the pixel at a row and a column
 abbrev pub componentIn : Settings → List ℕ → ℕ → Component → ℕ → ℕ → ℕ

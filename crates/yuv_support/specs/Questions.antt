@@ -1,16 +1,15 @@
--- Document 01, "Questions to every conversion": questions 1 to 14, the verdict, and the two readers.
+-- Document 01, "Questions to every conversion", and document 02, slip 1: questions 1 to 14, the verdict, and the two readers.
 -- Definitions only.
 use Prim.Native.Nat.{ℕ, _+_, _-_, _*_}
 use mathlib.Core.Bool.{Bool, cond, _&&_}
 use mathlib.Core.List.{List, [], _∷_, _++_}
 use lib.Dec.{leb, ltb}
-use lib.Ieee.{Float}
 use lib.ListN.{take, drop}
 use Rattle.yuv_support.specs.declared.YuvChromaSubsampling.{YuvChromaSubsampling}
 use Rattle.yuv_support.specs.declared.Codes.{Codes}
 use Rattle.yuv_support.specs.declared.Settings.{Settings}
 use Rattle.yuv_support.specs.declared.YuvPlanarImage.{YuvPlanarImage}
-use Rattle.yuv_support.specs.Settings.{samplingOf, orderOf, rangeOf, matrixOf, among}
+use Rattle.yuv_support.specs.Settings.{samplingOf, orderOf, rangeOf, matrixOf, packingOf, lastPacking, among}
 use Rattle.yuv_support.specs.Coefficients.{usable}
 use Rattle.yuv_support.specs.Blend.{chromaWidth, chromaHeight, nearRow}
 use Rattle.yuv_support.specs.Picture.{channelsOf}
@@ -74,6 +73,7 @@ decoded c = record {
   order = orderOf (c .order);
   range = rangeOf (c .range);
   matrix = matrixOf (c .matrix) (c .kr) (c .kb);
+  packing = packingOf (c .packing);
 }
 
 -- ---- the questions
@@ -84,7 +84,8 @@ samplingKnown sampling = ask 1 (leb sampling 1)
 
 -- 2; which depths are known is a matter of the element's width
 abbrev pub codesKnown : Bool → Codes → Question
-codesKnown depthKnown c = ask 2 (leb (c .order) 3 && (leb (c .range) 1 && (leb (c .matrix) 6 && depthKnown)))
+codesKnown depthKnown c =
+    ask 2 (leb (c .order) 3 && (leb (c .range) 1 && (leb (c .matrix) 6 && (leb (c .packing) (lastPacking (c .depth)) && depthKnown))))
 
 -- 3 and 4
 abbrev pub sides : ℕ → ℕ → List Question
@@ -137,12 +138,9 @@ questionsOf depthKnown q =
 abbrev pub conversionQuestions : List ℕ → Request → List Question
 conversionQuestions known q = questionsOf (among (q .codes .depth) known) q
 
--- the settings used: 2 for the depth, the range and the matrix, and 13
-unfoldable pub settingsQuestions : ℕ → ℕ → ℕ → Float → Float → List ℕ → List Question
-settingsQuestions depth range matrix kr kb known =
-    ask 2 (leb range 1 && (leb matrix 6 && among depth known))
-    ∷ ask 13 (usable depth (rangeOf range) (matrixOf matrix kr kb))
-    ∷ []
+-- the settings used: the questions that concern the codes alone, 1, 2 and 13
+unfoldable pub settingsQuestions : Bool → Codes → List Question
+settingsQuestions depthKnown c = samplingKnown (c .sampling) ∷ codesKnown depthKnown c ∷ weightsUsable (decoded c) ∷ []
 
 -- the finished row: 2 for the order code, 3 to 6, then 14
 unfoldable pub rowQuestions : ℕ → ℕ → ℕ → Extent → ℕ → List Question

@@ -1,8 +1,9 @@
--- Document 01, "Settings": what each code means, the numbers of a depth and a range, and the weights of a matrix.
+-- Document 01, "Settings", and document 02, slip 1: what each code means, the numbers of a depth and a range, how samples are packed, and the
+-- weights of a matrix.
 -- Definitions only.
-use Prim.Native.Nat.{ℕ, _-_, _*_, _^_}
+use Prim.Native.Nat.{ℕ, _-_, _*_, _/_, _^_}
 use mathlib.Core.Bool.{Bool, false, cond, _||_}
-use mathlib.Core.List.{List, [], _∷_}
+use mathlib.Core.List.{List, [], _∷_, map}
 use lib.Dec.{eqb}
 use lib.Ieee.{Float, binary32, round}
 use Rattle.yuv_support.specs.declared.YuvRange.{YuvRange}
@@ -13,6 +14,8 @@ use Rattle.yuv_support.specs.declared.YuvChromaSubsampling.{YuvChromaSub
 use Rattle.yuv_support.specs.declared.YuvChromaSubsampling.the-variants.{Yuv420, Yuv422}
 use Rattle.yuv_support.specs.declared.YuvSourceChannels.{YuvSourceChannels}
 use Rattle.yuv_support.specs.declared.YuvSourceChannels.the-variants.{Rgb, Rgba, Bgra, Bgr}
+use Rattle.yuv_support.specs.declared.YuvBytesPacking.{YuvBytesPacking}
+use Rattle.yuv_support.specs.declared.YuvBytesPacking.the-variants.{LeastSignificantBytes, MostSignificantBytes}
 use Rattle.yuv_support.specs.declared.YuvBias.{YuvBias}
 use Rattle.yuv_support.specs.declared.YuvChromaRange.{YuvChromaRange}
 
@@ -39,6 +42,14 @@ matrixOf code kr kb =
     (cond (eqb code 3) Smpte240
     (cond (eqb code 4) Bt470_6
     (cond (eqb code 5) Fcc (Custom kr kb))))))
+
+-- packing: 0 low bits, 1 high bits
+abbrev pub packingOf : ℕ → YuvBytesPacking
+packingOf code = cond (eqb code 0) LeastSignificantBytes MostSignificantBytes
+
+-- the last packing that is known at a depth: depth 8 has packing 0 only
+abbrev pub lastPacking : ℕ → ℕ
+lastPacking d = cond (eqb d 8) 0 1
 
 -- x is one of the list's numbers
 abbrev pub among : ℕ → List ℕ → Bool
@@ -81,6 +92,15 @@ biasC d = 2 ^ (d - 1)
 -- all but M, as one record
 abbrev pub chromaRangeOf : ℕ → YuvRange → YuvChromaRange
 chromaRangeOf d r = record { «bias_y» = biasY d r; «bias_uv» = biasC d; «range_y» = rangeY d r; «range_uv» = rangeC d r }
+
+-- the sample of depth d that an element of a plane holds: in the high bits the element is first divided by 2^(16 − d), rounding down
+unfoldable pub unpacked : YuvBytesPacking → ℕ → ℕ → ℕ
+unpacked LeastSignificantBytes d x = x
+unpacked MostSignificantBytes d x = x / 2 ^ (16 - d)
+
+-- the samples of some elements
+abbrev pub samplesOf : YuvBytesPacking → ℕ → List ℕ → List ℕ
+samplesOf p d elements = map (unpacked p d) elements
 
 -- ---- the weights of a named matrix, in ten-thousandths. Custom has none here: its weights are any f32.
 

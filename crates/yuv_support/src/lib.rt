@@ -1,10 +1,10 @@
-// The settings of a conversion as types: range, matrix, sampling and channel order, the two weights, the five coefficients.
+// The settings of a conversion as types: range, matrix, sampling, channel order and packing, the two weights, the five coefficients.
 // Codes are decoded here and nowhere else. The definitions of a conversion stand in specs/, one module to a subject; those of the answers'
 // numbers, the settings used, the readers and the sheet in the specs of their own crates.
 ghost use mathlib.Core.Path.{_≡_};
 ghost use Prim.Native.Nat.{_-_, _^_, _<_, _≤_};
 ghost use lib.Dec.{T};
-ghost use Rattle.yuv_support.specs.Settings.{samplingOf, orderOf, rangeOf, matrixOf, among, depths, maxOf, chromaRangeOf};
+ghost use Rattle.yuv_support.specs.Settings.{samplingOf, orderOf, rangeOf, matrixOf, packingOf, lastPacking, among, depths, maxOf, chromaRangeOf};
 ghost use Rattle.yuv_support.specs.Picture.{channelsOf};
 ghost use Rattle.yuv_support.specs.Questions.{decoded};
 
@@ -36,6 +36,12 @@ pub enum YuvSourceChannels {
     Rgba,
     Bgra,
     Bgr,
+}
+
+// Which bits of its element a sample stands in: the low ones or the high ones.
+pub enum YuvBytesPacking {
+    LeastSignificantBytes,
+    MostSignificantBytes,
 }
 
 // The weights kr and kb of a matrix.
@@ -71,12 +77,14 @@ pub struct YuvChromaRange {
 }
 
 // The codes and weights that a conversion is asked with.
+#[repr(C)]
 pub struct Codes {
     pub depth: u32,
     pub sampling: u32,
     pub order: u32,
     pub range: u32,
     pub matrix: u32,
+    pub packing: u32,
     pub kr: f32,
     pub kb: f32,
 }
@@ -88,9 +96,11 @@ pub struct Settings {
     pub order: YuvSourceChannels,
     pub range: YuvRange,
     pub matrix: YuvStandardMatrix,
+    pub packing: YuvBytesPacking,
 }
 
 // The sides of a picture and the strides of its planes, which stand beside it as slices.
+#[repr(C)]
 pub struct YuvPlanarImage {
     pub width: u32,
     pub height: u32,
@@ -142,6 +152,15 @@ pub fn matrix_of(code: u32, kr: f32, kb: f32) -> YuvStandardMatrix
     }
 }
 
+pub fn packing_of(code: u32) -> YuvBytesPacking
+    ensures { λ r. ⌜ r ≡ packingOf code ⌝ }
+{
+    match code {
+        0 => YuvBytesPacking::LeastSignificantBytes,
+        _ => YuvBytesPacking::MostSignificantBytes,
+    }
+}
+
 // The settings that the codes stand for. Codes that questions 1 and 2 refuse stand for none.
 pub fn decode(codes: Codes) -> Settings
     ensures { λ r. ⌜ r ≡ decoded codes ⌝ }
@@ -150,12 +169,14 @@ pub fn decode(codes: Codes) -> Settings
     let order = order_of(codes.order);
     let range = range_of(codes.range);
     let matrix = matrix_of(codes.matrix, codes.kr, codes.kb);
+    let packing = packing_of(codes.packing);
     Settings {
         depth: codes.depth,
         sampling,
         order,
         range,
         matrix,
+        packing,
     }
 }
 
@@ -170,6 +191,16 @@ pub fn is_depth(depth: u32) -> bool
         return true;
     }
     depth == 12
+}
+
+// The last packing that is known at a depth: a byte has no high bits to spare.
+pub fn last_packing(depth: u32) -> u32
+    ensures { λ r. ⌜ r ≡ lastPacking depth ⌝ }
+{
+    if depth == 8 {
+        return 0;
+    }
+    1
 }
 
 // The number of letters in the order's name.

@@ -26,7 +26,8 @@ impl Element for u16 {
     }
 }
 
-/// Samples up to M, up to the element's width, or from the ends of both and the biases.
+/// Samples up to M, up to the element's width, or from the ends of both and the biases. In the high
+/// bits any element is a sample up to M, and the ends have only 0s or only 1s below them.
 #[derive(Clone, Copy, Debug, PartialEq)]
 pub enum Samples {
     Within,
@@ -36,23 +37,14 @@ pub enum Samples {
 
 pub const SAMPLES: [Samples; 3] = [Samples::Within, Samples::Any, Samples::Extreme];
 
-/// `len` random samples.
-pub fn samples<T: Element>(random: &mut Random, kind: Samples, depth: u32, len: usize) -> Vec<T> {
-    let depth = depth.clamp(8, 16);
-    let max = (u32::MAX >> (32 - depth)) as u16;
-    let (bias_y, bias_c) = (16 << (depth - 8), 1 << (depth - 1));
-    let ends = [0, 1, bias_y, bias_c - 1, bias_c, max - 1, max, u16::MAX];
+/// `len` elements, each made of 16 random bits.
+pub fn elements<T: Element>(
+    random: &mut Random, len: usize, element: impl Fn(u16) -> u16,
+) -> Vec<T> {
     let mut all = Vec::with_capacity(len + 3);
     while all.len() < len {
         let bits = random.bits();
-        for lane in 0..4 {
-            let value = (bits >> (16 * lane)) as u16;
-            all.push(T::low(match kind {
-                Samples::Within => value & max,
-                Samples::Any => value,
-                Samples::Extreme => ends[usize::from(value % 8)],
-            }));
-        }
+        all.extend((0..4).map(|lane| T::low(element((bits >> (16 * lane)) as u16))));
     }
     all.truncate(len);
     all
@@ -60,7 +52,18 @@ pub fn samples<T: Element>(random: &mut Random, kind: Samples, depth: u32, len: 
 
 /// The three planes of a request.
 pub fn planes<T: Element>(random: &mut Random, kind: Samples, q: &Request) -> Planes<T> {
-    [q.y, q.u, q.v].map(|plane| samples(random, kind, q.codes.depth, plane.len))
+    let depth = q.codes.depth.clamp(8, 16);
+    let shift = if q.codes.packing == 1 { 16 - depth } else { 0 };
+    let max = (u32::MAX >> (32 - depth)) as u16;
+    let (bias_y, bias_c) = (16 << (depth - 8), 1 << (depth - 1));
+    let ends = [0, 1, bias_y, bias_c - 1, bias_c, max - 1, max, u16::MAX];
+    let below = [0, (1 << shift) - 1];
+    let element = |bits: u16| match kind {
+        Samples::Within if shift == 0 => bits & max,
+        Samples::Within | Samples::Any => bits,
+        Samples::Extreme => ends[usize::from(bits % 8)] << shift | below[usize::from(bits / 8 % 2)],
+    };
+    [q.y, q.u, q.v].map(|plane| elements(random, plane.len, element))
 }
 
 /// How far a stride and a length lie above their limits.
@@ -89,12 +92,43 @@ pub fn request(codes: Codes, width: u32, height: u32, slack: [Slack; 4]) -> Requ
     }
 }
 
+/// The packings that are known at a depth.
+pub fn packings(depth: u32) -> &'static [u32] {
+    if depth == 8 {
+        &[0]
+    } else {
+        &[0, 1]
+    }
+}
+
 /// Known codes, with weights.
 pub fn codes<T: Element>(random: &mut Random) -> Codes {
     let (depth, range) = (random.pick(T::DEPTHS), random.below(2));
     let (kr, kb) = weights(random, depth, range);
     let (sampling, order, matrix) = (random.below(2), random.below(4), random.below(7));
-    Codes { depth, sampling, order, range, matrix, kr, kb }
+    let packing = random.pick(packings(depth));
+    Codes { depth, sampling, order, range, matrix, packing, kr, kb }
+}
+
+const DEPTHS: [u32; 15] = [0, 1, 7, 8, 9, 10, 11, 12, 13, 14, 16, 32, 264, 266, u32::MAX];
+const SAMPLINGS: [u32; 6] = [0, 1, 2, 3, 256, u32::MAX];
+const ORDERS: [u32; 8] = [0, 1, 2, 3, 4, 5, 256, u32::MAX];
+const RANGES: [u32; 6] = [0, 1, 2, 3, 256, u32::MAX];
+const MATRICES: [u32; 13] = [0, 1, 2, 3, 4, 5, 6, 7, 8, 9, 256, 262, u32::MAX];
+const PACKINGS: [u32; 6] = [0, 1, 2, 3, 256, u32::MAX];
+
+/// Known and unknown codes in all combinations.
+pub fn every_code() -> impl Iterator<Item = Codes> {
+    let lists: [&[u32]; 6] = [&DEPTHS, &SAMPLINGS, &ORDERS, &RANGES, &MATRICES, &PACKINGS];
+    (0..lists.iter().map(|list| list.len()).product()).map(move |n: usize| {
+        let mut rest = n;
+        let [depth, sampling, order, range, matrix, packing] = lists.map(|list| {
+            let code = list[rest % list.len()];
+            rest /= list.len();
+            code
+        });
+        Codes { depth, sampling, order, range, matrix, packing, kr: 0.0, kb: 0.0 }
+    })
 }
 
 const fn bits(bits: u32) -> f32 {

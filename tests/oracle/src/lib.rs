@@ -1,4 +1,5 @@
 //! Compares the proved library with the scalar Rust of yuvutils-rs and with document 01's questions.
+//! The setting `packing` is that of document 02, slip 1.
 
 pub mod cases;
 pub mod library;
@@ -44,7 +45,8 @@ pub struct Part {
     pub length: u64,
 }
 
-/// Document 01's codes, with the weights of Custom.
+/// The codes of the settings, with the weights of Custom.
+#[repr(C)]
 #[derive(Clone, Copy, Debug)]
 pub struct Codes {
     pub depth: u32,
@@ -52,6 +54,7 @@ pub struct Codes {
     pub order: u32,
     pub range: u32,
     pub matrix: u32,
+    pub packing: u32,
     pub kr: f32,
     pub kb: f32,
 }

@@ -6,13 +6,29 @@ use crate::{Answer, Planes, Request};
 use crate::{Codes, SettingsUsed};
 
 extern "C" {
-    fn dethrowg_coefficients(depth: u32, range: u32, matrix: u32, kr: f32, kb: f32)
-        -> SettingsUsed;
+    fn dethrowg_coefficients(codes: Codes) -> SettingsUsed;
 }
 
 /// The settings that a conversion uses.
 pub fn settings(codes: &Codes) -> SettingsUsed {
-    unsafe { dethrowg_coefficients(codes.depth, codes.range, codes.matrix, codes.kr, codes.kb) }
+    unsafe { dethrowg_coefficients(*codes) }
+}
+
+/// The sides of a picture, and the strides of its planes.
+#[cfg(feature = "level_a")]
+#[repr(C)]
+struct Image {
+    width: u32,
+    height: u32,
+    y_stride: u32,
+    u_stride: u32,
+    v_stride: u32,
+}
+
+#[cfg(feature = "level_a")]
+fn image(q: &Request) -> Image {
+    let [y_stride, u_stride, v_stride] = [q.y, q.u, q.v].map(|plane| plane.stride);
+    Image { width: q.width, height: q.height, y_stride, u_stride, v_stride }
 }
 
 /// Element widths that the library converts.
@@ -29,11 +45,10 @@ macro_rules! conversion {
         #[cfg(feature = $level)]
         extern "C" {
             fn $export(
-                depth: u32, sampling: u32, order: u32, range: u32, matrix: u32, kr: f32, kb: f32,
-                width: u32, height: u32,
-                y: *const $element, y_len: usize, y_stride: u32,
-                u: *const $element, u_len: usize, u_stride: u32,
-                v: *const $element, v_len: usize, v_stride: u32,
+                codes: Codes, image: Image,
+                y: *const $element, y_len: usize,
+                u: *const $element, u_len: usize,
+                v: *const $element, v_len: usize,
                 rgb: *mut $element, rgb_len: usize, rgb_stride: u32,
             ) -> Answer;
         }
@@ -41,16 +56,15 @@ macro_rules! conversion {
         #[cfg(feature = $level)]
         impl Convert for $element {
             fn convert(q: &Request, planes: &mut Planes<Self>, rgb: &mut [Self]) -> Answer {
-                let (c, [y, u, v]) = (&q.codes, planes);
+                let [y, u, v] = planes;
                 let lengths = [y.len(), u.len(), v.len(), rgb.len()];
                 assert_eq!([q.y.len, q.u.len, q.v.len, q.rgb.len], lengths);
                 unsafe {
                     $export(
-                        c.depth, c.sampling, c.order, c.range, c.matrix, c.kr, c.kb,
-                        q.width, q.height,
-                        y.as_mut_ptr(), y.len(), q.y.stride,
-                        u.as_mut_ptr(), u.len(), q.u.stride,
-                        v.as_mut_ptr(), v.len(), q.v.stride,
+                        q.codes, image(q),
+                        y.as_mut_ptr(), y.len(),
+                        u.as_mut_ptr(), u.len(),
+                        v.as_mut_ptr(), v.len(),
                         rgb.as_mut_ptr(), rgb.len(), q.rgb.stride,
                     )
                 }

@@ -1,5 +1,5 @@
-//! Document 01's questions 1 to 14, written from its text. The Rust has no number for 1, 2, 4, 13
-//! and 14; for the others this is a second opinion.
+//! Document 01's questions 1 to 14, with the packing of document 02's slip 1, written from their
+//! text. The Rust has no number for 1, 2, 4, 13 and 14; for the others this is a second opinion.
 use crate::{Answer, Codes, Extent, Part, Request, SettingsUsed};
 
 type Asked = Result<(), Answer>;
@@ -23,9 +23,7 @@ pub fn conversion(bits: u32, request: &Request) -> Answer {
 }
 
 fn conversion_asked(bits: u32, q: &Request) -> Asked {
-    let depth_known = if bits == 8 { q.codes.depth == 8 } else { matches!(q.codes.depth, 10 | 12) };
-    ask(1, q.codes.sampling <= 1, 0, 0)?;
-    ask(2, depth_known && q.codes.order <= 3 && q.codes.range <= 1 && q.codes.matrix <= 6, 0, 0)?;
+    codes(if bits == 8 { &[8] } else { &[10, 12] }, &q.codes)?;
     sides(q.width, q.height)?;
     destination(q.rgb, q.codes.order, q.width, q.height)?;
     plane(7, q.y, q.width, q.height)?;
@@ -33,6 +31,23 @@ fn conversion_asked(bits: u32, q: &Request) -> Asked {
     plane(9, q.u, width, height)?;
     plane(11, q.v, width, height)?;
     weights(&q.codes)
+}
+
+/// Questions 1 and 2, where `depths` are known.
+fn codes(depths: &[u32], c: &Codes) -> Asked {
+    ask(1, c.sampling <= 1, 0, 0)?;
+    let others = c.order <= 3 && c.range <= 1 && c.matrix <= 6;
+    ask(2, depths.contains(&c.depth) && others && packing_known(c), 0, 0)
+}
+
+/// Low bits at every depth, high bits at all but 8.
+fn packing_known(c: &Codes) -> bool {
+    c.packing == 0 || c.packing == 1 && c.depth != 8
+}
+
+/// Whether question 2 gets a "no" for the packing alone.
+pub fn packing_alone(depths: &[u32], c: &Codes) -> bool {
+    !packing_known(c) && codes(depths, &Codes { packing: 0, ..*c }).is_ok()
 }
 
 /// Questions 3 and 4.
@@ -91,12 +106,10 @@ pub fn computed(depth: u32, range: u32, kr: f32, kb: f32) -> [i64; 5] {
     [max / range_y, outer(kr), outer(kb), inner(kr), inner(kb)].map(|c| (c * 8192.0).round() as i64)
 }
 
-/// Questions 2 and 13 of the settings alone; no values.
-pub fn settings(depth: u32, range: u32, matrix: u32, kr: f32, kb: f32) -> SettingsUsed {
-    let codes = Codes { depth, sampling: 0, order: 0, range, matrix, kr, kb };
-    let known = matches!(depth, 8 | 10 | 12) && range <= 1 && matrix <= 6;
-    let Answer { number, expected, received } =
-        answer(ask(2, known, 0, 0).and_then(|_| weights(&codes)));
+/// Questions 1, 2 and 13, of the codes alone; no values.
+pub fn settings(c: &Codes) -> SettingsUsed {
+    let asked = codes(&[8, 10, 12], c).and_then(|_| weights(c));
+    let Answer { number, expected, received } = answer(asked);
     SettingsUsed { number, expected, received, ..Default::default() }
 }
 

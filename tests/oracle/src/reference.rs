@@ -1,11 +1,12 @@
-//! The Rust, called by codes. Where it would panic it must not be called: an unknown code, and
-//! Custom weights that question 13 refuses.
+//! The Rust, called by codes. It takes samples in the low bits; those in the high bits are divided
+//! for it. Where it would panic it must not be called: an unknown code, and Custom weights that
+//! question 13 refuses.
 use crate::{Answer, Codes, Planes, Request, SettingsUsed};
 use source::{YuvError, YuvPlanarImage, YuvRange, YuvStandardMatrix};
-use std::ops::RangeInclusive;
+use std::ops::{RangeInclusive, Shr};
 
 /// Element widths that the Rust converts.
-pub trait Reference: Copy + std::fmt::Debug {
+pub trait Reference: Copy + std::fmt::Debug + Shr<u32, Output = Self> {
     fn reference(
         request: &Request, planes: &Planes<Self>, rgb: &mut [Self],
     ) -> Result<(), YuvError>;
@@ -22,8 +23,17 @@ impl Reference for u16 {
     fn reference(q: &Request, planes: &Planes<u16>, rgb: &mut [u16]) -> Result<(), YuvError> {
         let Codes { order, sampling, depth, .. } = q.codes;
         let driver = source::yuv_p16_to_rgba16_bilinear::driver(order, sampling, depth);
-        driver(&image(q, planes), rgb, q.rgb.stride, range(q.codes.range), matrix(&q.codes))
+        let divided = divided(&q.codes, planes);
+        let image = image(q, divided.as_ref().unwrap_or(planes));
+        driver(&image, rgb, q.rgb.stride, range(q.codes.range), matrix(&q.codes))
     }
+}
+
+/// The samples of planes in the high bits, each divided by 2^(16 - depth), rounding down; none where
+/// they stand in the low bits.
+pub fn divided<T: Reference>(codes: &Codes, planes: &Planes<T>) -> Option<Planes<T>> {
+    let plane = |plane: &Vec<T>| plane.iter().map(|s| *s >> (16 - codes.depth)).collect();
+    (codes.packing == 1).then(|| planes.each_ref().map(plane))
 }
 
 /// A request with its planes, as the Rust takes them.

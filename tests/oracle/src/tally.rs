@@ -5,6 +5,7 @@ use std::process::ExitCode;
 pub struct Tally {
     pub calls: u64,
     by_number: [u64; 16],
+    by_packing: u64,
     different: u64,
     smallest: Vec<(usize, String)>,
 }
@@ -14,6 +15,11 @@ impl Tally {
     pub fn count(&mut self, number: u64) {
         self.calls += 1;
         self.by_number[number as usize] += 1;
+    }
+
+    /// Counts a call that was refused for its packing alone.
+    pub fn count_packing(&mut self) {
+        self.by_packing += 1;
     }
 
     /// Counts a difference, on an input of `size` samples.
@@ -29,14 +35,27 @@ impl Tally {
 
     /// Prints all counts; a failure where something differed.
     pub fn finish(self, what: &str) -> ExitCode {
+        status(self.print(what))
+    }
+
+    /// Prints all counts; whether nothing differed.
+    pub fn print(&self, what: &str) -> bool {
         println!("{what}: {} compared, {} different", self.calls, self.different);
         let answers = self.by_number.iter().enumerate().filter(|(_, calls)| **calls > 0);
         let answers: Vec<String> =
             answers.map(|(number, calls)| format!("{number}: {calls}")).collect();
         println!("  calls by number: {}", answers.join(", "));
+        if self.by_packing > 0 {
+            println!("  of number 2, for the packing alone: {}", self.by_packing);
+        }
         for (_, text) in &self.smallest {
             println!("different:\n{text}");
         }
-        ExitCode::from(u8::from(self.different > 0))
+        self.different == 0
     }
+}
+
+/// A success where nothing differed.
+pub fn status(same: bool) -> ExitCode {
+    ExitCode::from(u8::from(!same))
 }

@@ -3,7 +3,8 @@
 use borrow.Author.Needs.{needs}
 use mathlib.Core.Path.{_∙_}
 use native.Mathlib.Omega.{arith}
-use Rattle.kernel.proofs.Frames.{parts-in, parts-fit, row-of-parts, words-most}
+use Rattle.yuv_support.specs.Blend.{frameOf}
+use Rattle.kernel.proofs.Frames.{Parts, parts-in, low-parts, parts-fit, row-of-parts, words-most}
 use Rattle.convert16.proofs.convert_row.Statement.{statement}
 use Rattle.convert16.proofs.convert_row.Tie as tie
 
@@ -25,6 +26,19 @@ row16-requires-4 c κs = search (needs, parts-in (c .before .before .before .bef
 row16-requires-5 : tie.Need-row16-requires-5
 row16-requires-5 c κs = search (needs, parts-in (c .before .before .before .before .before .before .before .before .before .pre .0 .1) (c .before .before .before .before .before .before .before .before .before .args .r) (c .before .before .before .before .before .before .before .before .before .pre .1 .0) (c .before .before .before .before .chroma-rows .ensures))
 
+-- the rows lent are the parts of the definitions
+lent : (c : tie.After-row165) → let start = c .before .before .before .before .before .before .before .before .before .before in let a = start .args in
+    Parts (a .s) (frameOf (a .image) (a .y .now) (a .u .now) (a .v .now)) (a .r) (c .before .before .before .before .before .chroma-rows .result)
+    (c .before .before .before .before .row16 .result .now) (c .before .before .before .row162 .result .now) (c .before .before .row163 .result .now) (c .before .row164 .result .now) (c .row165 .result .now)
+lent c = let start = c .before .before .before .before .before .before .before .before .before .before in
+    low-parts (start .args .s) (start .pre .0 .2) record {
+      y-is = c .before .before .before .before .row16 .ensures;
+      u-near = c .before .before .before .row162 .ensures;
+      u-other = c .before .before .row163 .ensures;
+      v-near = c .before .row164 .ensures;
+      v-other = c .row165 .ensures;
+    }
+
 cast-interpolate-row : tie.Need-cast-interpolate-row
 cast-interpolate-row c = search needs
 
@@ -32,7 +46,7 @@ interpolate-row-requires : tie.Need-interpolate-row-requires
 interpolate-row-requires c κs =
     let start = c .before .before .before .before .before .before .before .before .before .before .before .before in
     let parts = parts-fit (start .pre .0 .1) (start .args .r) (start .pre .1 .0) (c .before .before .before .before .before .before .before .chroma-rows .ensures) in
-    (start .pre .0 .0, parts record { y-is = c .before .before .before .before .before .before .row16 .ensures; u-near = c .before .before .before .before .before .row162 .ensures; u-other = c .before .before .before .before .row163 .ensures; v-near = c .before .before .before .row164 .ensures; v-other = c .before .before .row165 .ensures } (start .args .row .now) (start .pre .1 .1))
+    (start .pre .0 .0, parts (lent (c .before .before)) (start .args .row .now) (start .pre .1 .1))
 
 same-length : tie.Need-same-length
 same-length c = search needs
@@ -43,7 +57,7 @@ returns c =
     let most = words-most (start .pre .0 .1) (start .pre .0 .0) in
     let row = row-of-parts (start .pre .0 .1) (start .args .r) (start .pre .1 .0) (c .before .before .before .before .before .before .before .before .before .before .chroma-rows .ensures) in
     c .before .before .interpolate-row .ensures
-    ∙ row record { y-is = c .before .before .before .before .before .before .before .before .before .row16 .ensures; u-near = c .before .before .before .before .before .before .before .before .row162 .ensures; u-other = c .before .before .before .before .before .before .before .row163 .ensures; v-near = c .before .before .before .before .before .before .row164 .ensures; v-other = c .before .before .before .before .before .row165 .ensures } (start .args .row .now) (start .pre .1 .1)
+    ∙ row (lent (c .before .before .before .before .before)) (start .args .row .now) (start .pre .1 .1)
     (λ i. rw most (omega (arith, c .before .before .before .before .before .before .before .before .before .before .before .before .shared-slice-known2 .given i))) (λ i. rw most (omega (arith, c .before .before .before .before .before .before .before .before .before .before .before .shared-slice-known3 .given i)))
 
 pub convert-row-spec : {M : Type 1} → statement M

@@ -1,6 +1,11 @@
 -- `images::check_codes` meets its contract. Each return rewrites with the tests that led there.
 -- Assumes nothing.
+use borrow.Author.Needs.{needs}
 use borrow.Author.Tests.{le-leb, lt-leb}
+use mathlib.Core.Path.{_≡_}
+use mathlib.Core.Bool.{true}
+use lib.Dec.{leb}
+use Rattle.yuv_support.specs.Settings.{lastPacking}
 use Rattle.yuv_support.specs.Questions.{verdict}
 use Rattle.yuv_error.specs.Told.{told}
 use Rattle.images.proofs.check_codes.Statement.{statement}
@@ -18,13 +23,24 @@ returns-3 : tie.Need-returns-3
 unfolding verdict told
 returns-3 c = simp (le-leb _ _ (c .before .before .before .before .if1 .left), le-leb _ _ (c .before .before .if2 .left), lt-leb _ _ (c .if3 .taken))
 
+last-packing-requires : tie.Need-last-packing-requires
+last-packing-requires c κs = search needs
+
 returns-4 : tie.Need-returns-4
 unfolding verdict told
-returns-4 c = simp (le-leb _ _ (c .before .before .before .before .before .if1 .left), le-leb _ _ (c .before .before .before .if2 .left), le-leb _ _ (c .before .if3 .left), c .if4 .taken)
+returns-4 c = simp (le-leb _ _ (c .before .before .before .before .before .before .before .if1 .left), le-leb _ _ (c .before .before .before .before .before .if2 .left), le-leb _ _ (c .before .before .before .if3 .left), lt-leb _ _ (rw (c .before .before .last-packing .ensures) at (c .if4 .taken)))
+
+-- past the test of the packing
+packing-known : (c : tie.Else4) → let a = c .before .before .before .before .before .before .before .before .before .args in leb (a .codes .packing) (lastPacking (a .codes .depth)) ≡ true
+packing-known c = le-leb _ _ (rw (c .before .before .last-packing .ensures) at (c .if4 .left))
 
 returns-5 : tie.Need-returns-5
 unfolding verdict told
-returns-5 c = simp (le-leb _ _ (c .before .before .before .before .before .if1 .left), le-leb _ _ (c .before .before .before .if2 .left), le-leb _ _ (c .before .if3 .left), c .if4 .left)
+returns-5 c = simp (le-leb _ _ (c .before .before .before .before .before .before .before .before .if1 .left), le-leb _ _ (c .before .before .before .before .before .before .if2 .left), le-leb _ _ (c .before .before .before .before .if3 .left), packing-known (c .before), c .if5 .taken)
+
+returns-6 : tie.Need-returns-6
+unfolding verdict told
+returns-6 c = simp (le-leb _ _ (c .before .before .before .before .before .before .before .before .if1 .left), le-leb _ _ (c .before .before .before .before .before .before .if2 .left), le-leb _ _ (c .before .before .before .before .if3 .left), packing-known (c .before), c .if5 .left)
 
 pub check-codes-spec : {M : Type 1} → statement M
-check-codes-spec = tie.close (tie.spec returns returns-2 returns-3 returns-4 returns-5)
+check-codes-spec = tie.close (tie.spec returns returns-2 returns-3 last-packing-requires returns-4 returns-5 returns-6)

@@ -4,17 +4,16 @@
 use borrow.Author.Needs.{needs}
 use borrow.Author.Tests.{not-true, not-false}
 use mathlib.Core.Path.{_≡_, refl}
-use mathlib.Core.List.{List, [], _∷_, _++_}
+use mathlib.Core.List.{List, _∷_, _++_}
 use Prim.Native.Nat.{_*_}
-use Rattle.yuv_support.specs.Settings.{samplingOf, orderOf, rangeOf, matrixOf}
-use Rattle.yuv_support.specs.Coefficients.{usable}
+use Rattle.yuv_support.specs.Settings.{samplingOf, orderOf}
 use Rattle.yuv_support.specs.Picture.{channelsOf}
-use Rattle.yuv_support.specs.Questions.{Question, verdict, ask, extent, samplingKnown, codesKnown, sides, destination, questionsOf}
+use Rattle.yuv_support.specs.Questions.{Question, verdict, extent, samplingKnown, codesKnown, sides, destination, questionsOf}
 use Rattle.yuv_error.specs.declared.YuvError.{YuvError}
 use Rattle.yuv_error.specs.Told.{told}
 use Rattle.yuv_error.proofs.Answers.{accepted-number, first-refused, first-accepted}
 use Rattle.images.specs.Request.{constraints}
-use Rattle.images.proofs.Held.{Sides, sides-held, depth-held}
+use Rattle.images.proofs.Held.{Sides, sides-held, depth-accepted}
 use Rattle.images.proofs.check_conversion.Statement.{statement}
 use Rattle.images.proofs.check_conversion.Tie as tie
 
@@ -123,31 +122,20 @@ returns-5 c =
     past-destination (c .before .before .before .before) _ _
     (first-refused _ _ _ (planes-asked (c .before .before)) (c .before .is-accepted5 .ensures) _ (not-true _ (c .if5 .taken)))
 
-range-of-requires : tie.Need-range-of-requires
-range-of-requires c κs = search needs
-
-matrix-of-requires : tie.Need-matrix-of-requires
-matrix-of-requires c κs = search needs
-
 check-weights-requires : tie.Need-check-weights-requires
 check-weights-requires c κs =
-    let d = c .before .before .before .before .before .before .before .before .before .before .before .before .before .before in
+    let d = c .before .before .before .before .before .before .before .before .before .before .before .before in
     let start = d .before .before .before .before .before .before in
     start .pre
-    (depth-held (start .args .depth-known) (start .args .codes)
+    (depth-accepted (start .args .depth-known) (start .args .codes)
     (accepted-number _ _ _ (d .before .before .check-codes .ensures) (d .before .is-accepted2 .ensures) (not-false _ (d .if2 .left))))
-
-weights-asked : (c : tie.After-check-weights) → let a = c .before .before .before .before .before .before .before .before .before .before .before .before .before .before .before .before .before .before .before .before .before .args in
-    told (c .check-weights .result)
-    ≡ verdict (ask 13 (usable (a .codes .depth) (rangeOf (a .codes .range)) (matrixOf (a .codes .matrix) (a .codes .kr) (a .codes .kb))) ∷ [])
-weights-asked c = rw (c .before .before .range-of .ensures, c .before .matrix-of .ensures) at (c .check-weights .ensures)
 
 returns-6 : tie.Need-returns-6
 unfolding questionsOf
 returns-6 c =
-    let d = c .before .before .before in
+    let d = c .before in
     past-destination (d .before .before .before .before) _ _
-    (first-accepted _ _ _ (planes-asked (d .before .before)) (d .before .is-accepted5 .ensures) _ _ refl (not-false _ (d .if5 .left)) (weights-asked c))
+    (first-accepted _ _ _ (planes-asked (d .before .before)) (d .before .is-accepted5 .ensures) _ _ refl (not-false _ (d .if5 .left)) (c .check-weights .ensures))
 
 pub check-conversion-spec : {M : Type 1} → statement M
 check-conversion-spec =
@@ -171,7 +159,5 @@ check-conversion-spec =
     check-constraints-requires
     is-accepted-requires-5
     returns-5
-    range-of-requires
-    matrix-of-requires
     check-weights-requires
     returns-6)

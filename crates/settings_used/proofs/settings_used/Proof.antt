@@ -1,61 +1,36 @@
--- `settings_used::settings_used` meets its contract: each return is one outcome of the two questions.
+-- `settings_used::settings_used` meets its contract.
 -- Assumes nothing.
 use borrow.Author.Needs.{needs}
-use borrow.Author.Tests.{not-true, not-false, le-leb, lt-leb}
-use mathlib.Core.Path.{_≡_, sym, _∙_, subst}
-use mathlib.Core.Bool.{true, false}
-use lib.Dec.{T}
-use Rattle.yuv_support.specs.Settings.{rangeOf, matrixOf, among, depths}
-use Rattle.yuv_support.specs.Coefficients.{usable}
-use Rattle.inverse_transform.proofs.Coefficients.{usable-from}
-use Rattle.settings_used.proofs.Verdicts.{settingKnown, unknown, unusable, all-hold}
+use borrow.Author.Tests.{not-true, not-false}
+use mathlib.Core.Path.{_≡_, sym, _∙_}
+use mathlib.Core.Bool.{true}
+use lib.Dec.{eqb}
+use Rattle.yuv_error.specs.Told.{told}
+use Rattle.settings_used.proofs.Verdicts.{refused-used, accepted-used, depth-known}
 use Rattle.settings_used.proofs.settings_used.Statement.{statement}
 use Rattle.settings_used.proofs.settings_used.Tie as tie
 
--- after the three tests of question 2
-depth-known : (c : tie.Else3) → among (c .before .before .before .before .args .depth) depths ≡ true
-depth-known c = sym (c .before .is-depth .ensures) ∙ not-false _ (c .if3 .left)
+check-settings-requires : tie.Need-check-settings-requires
+check-settings-requires c κs = search needs
 
-setting-known : (c : tie.Else3) → settingKnown (c .before .before .before .before .args .depth) (c .before .before .before .before .args .range) (c .before .before .before .before .args .matrix) ≡ true
-setting-known c = simp (le-leb _ _ (c .before .before .before .if1 .left), le-leb _ _ (c .before .before .if2 .left), depth-known c)
+is-accepted-requires : tie.Need-is-accepted-requires
+is-accepted-requires c κs = search needs
 
--- `is_usable` answers question 13
-weights-usable : (c : tie.After-is-usable) →
-    let a = c .before .before .before .before .before .before .before .before .args in c .is-usable .result ≡ usable (a .depth) (rangeOf (a .range)) (matrixOf (a .matrix) (a .kr) (a .kb))
-weights-usable c =
-    let a = c .before .before .before .before .before .before .before .before .args in
-    usable-from (a .depth) _ _ _ _ (c .before .search-inverse-transform .ensures) (c .is-usable .ensures)
-    ∙ rw (c .before .before .before .range-of .ensures, c .before .before .matrix-of .ensures)
+told-of-requires : tie.Need-told-of-requires
+told-of-requires c κs = search needs
 
 refused-requires : tie.Need-refused-requires
 refused-requires c κs = search needs
 
 returns : tie.Need-returns
 returns c =
-    let a = c .before .before .args in
-    c .refused .ensures ∙ unknown (a .depth) (a .range) (a .matrix) (a .kr) (a .kb) (simp (lt-leb _ _ (c .before .if1 .taken)))
+    c .refused .ensures
+    ∙ rw (c .before .told-of .ensures)
+    (refused-used (c .before .before .before .before .before .args .codes) _ (c .before .before .before .before .check-settings .ensures) (sym (c .before .before .before .is-accepted .ensures) ∙ not-true _ (c .before .before .if1 .taken)))
 
-refused-requires-2 : tie.Need-refused-requires-2
-refused-requires-2 c κs = search needs
-
-returns-2 : tie.Need-returns-2
-returns-2 c =
-    let a = c .before .before .before .args in
-    c .refused2 .ensures
-    ∙ unknown (a .depth) (a .range) (a .matrix) (a .kr) (a .kb) (simp (le-leb _ _ (c .before .before .if1 .left), lt-leb _ _ (c .before .if2 .taken)))
-
-is-depth-requires : tie.Need-is-depth-requires
-is-depth-requires c κs = search needs
-
-refused-requires-3 : tie.Need-refused-requires-3
-refused-requires-3 c κs = search needs
-
-returns-3 : tie.Need-returns-3
-returns-3 c =
-    let a = c .before .before .before .before .before .args in
-    let no : among (a .depth) depths ≡ false = sym (c .before .before .is-depth .ensures) ∙ not-true _ (c .before .if3 .taken) in
-    c .refused3 .ensures
-    ∙ unknown (a .depth) (a .range) (a .matrix) (a .kr) (a .kb) (simp (le-leb _ _ (c .before .before .before .before .if1 .left), le-leb _ _ (c .before .before .before .if2 .left), no))
+-- past the test no question got a "no"
+accepted : (c : tie.Else1) → eqb (told (c .before .before .check-settings .result) .number) 0 ≡ true
+accepted c = sym (c .before .is-accepted .ensures) ∙ not-false _ (c .if1 .left)
 
 range-of-requires : tie.Need-range-of-requires
 range-of-requires c κs = search needs
@@ -64,46 +39,33 @@ matrix-of-requires : tie.Need-matrix-of-requires
 matrix-of-requires c κs = search needs
 
 search-inverse-transform-requires : tie.Need-search-inverse-transform-requires
-search-inverse-transform-requires c κs = subst T (sym (depth-known (c .before .before))) tt
-
-is-usable-requires : tie.Need-is-usable-requires
-is-usable-requires c κs = search needs
-
-refused-requires-4 : tie.Need-refused-requires-4
-refused-requires-4 c κs = search needs
-
-returns-4 : tie.Need-returns-4
-returns-4 c =
-    let a = c .before .before .before .before .before .before .before .before .before .before .args in
-    c .refused4 .ensures
-    ∙ unusable (a .depth) (a .range) (a .matrix) (a .kr) (a .kb) (setting-known (c .before .before .before .before .before .before)) (sym (weights-usable (c .before .before)) ∙ not-true _ (c .before .if4 .taken))
+search-inverse-transform-requires c κs =
+    let d = c .before .before in
+    depth-known (d .before .before .before .args .codes) _ (d .before .before .check-settings .ensures) (accepted d)
 
 used-requires : tie.Need-used-requires
-used-requires c κs = subst T (sym (depth-known (c .before .before .before .before .before))) tt
+used-requires c κs =
+    let d = c .before .before .before in
+    depth-known (d .before .before .before .args .codes) _ (d .before .before .check-settings .ensures) (accepted d)
 
-returns-5 : tie.Need-returns-5
-returns-5 c =
-    let a = c .before .before .before .before .before .before .before .before .before .before .args in
+returns-2 : tie.Need-returns-2
+returns-2 c =
+    let d = c .before .before .before .before in
     c .used .ensures
-    ∙ rw (c .before .before .before .search-inverse-transform .ensures, c .before .before .before .before .before .range-of .ensures, c .before .before .before .before .matrix-of .ensures)
-    (all-hold (a .depth) (a .range) (a .matrix) (a .kr) (a .kb) (setting-known (c .before .before .before .before .before .before)) (sym (weights-usable (c .before .before)) ∙ not-false _ (c .before .if4 .left)))
+    ∙ rw (c .before .search-inverse-transform .ensures, c .before .before .matrix-of .ensures, c .before .before .before .range-of .ensures)
+    (accepted-used (d .before .before .before .args .codes) _ (d .before .before .check-settings .ensures) (accepted d))
 
 pub settings-used-spec : {M : Type 1} → statement M
 settings-used-spec =
     tie.close
     (tie.spec
+    check-settings-requires
+    is-accepted-requires
+    told-of-requires
     refused-requires
     returns
-    refused-requires-2
-    returns-2
-    is-depth-requires
-    refused-requires-3
-    returns-3
     range-of-requires
     matrix-of-requires
     search-inverse-transform-requires
-    is-usable-requires
-    refused-requires-4
-    returns-4
     used-requires
-    returns-5)
+    returns-2)

@@ -1,6 +1,7 @@
 -- `sheet_picture::picture8` meets its contract: the samples are copied, the conversion of a small picture is accepted, and its bytes are widened.
 -- Assumes nothing.
-use Rattle.sheet_picture.proofs.Converted.{Narrowed, luma-asks, cb-asks, cr-asks, luma-part, cb-part, cr-part, planes-shown, whole-same}
+use Rattle.sheet_picture.proofs.Converted.{Narrowed, luma-asks, cb-asks, cr-asks, luma-part, cb-part, cr-part, planes-shown}
+use Rattle.yuv_support.proofs.Copy.{whole-same}
 use Rattle.yuv_support.specs.Settings.{depths8}
 use lib.ListN.{length-replicate}
 use Prim.Native.Nat.{ℕ}

@@ -2,10 +2,14 @@
 -- Assumes nothing.
 use borrow.Author.Needs.{needs}
 use mathlib.Core.Path.{_≡_, sym, _∙_, subst}
+use native.Mathlib.Omega.{arith}
 use lib.Dec.{T}
-use Rattle.yuv_support.specs.Settings.{depths16}
-use Rattle.yuv_support.specs.Distance.{WithinDepth}
+use Rattle.yuv_support.specs.Settings.{among, depths16}
+use Rattle.yuv_support.specs.Blend.{frameOf}
+use Rattle.yuv_support.specs.Questions.{decoded}
+use Rattle.yuv_support.specs.Distance.{WithinDepth, WithinIfLow}
 use Rattle.yuv_support.specs.Conversion.{answerTo}
+use Rattle.yuv_support.proofs.Packing.{words-within}
 use Rattle.yuv_support.proofs.Conversion.{depth-of-16}
 use Rattle.yuv_error.specs.Told.{told}
 use Rattle.kernel.proofs.Accepted.{number-zero, converted, untouched}
@@ -28,6 +32,16 @@ answer : (c : tie.After-check-conversion)
 unfolding answerTo
 answer c = c .check-conversion .ensures ∙ rw (c .before .is-known-depth .ensures)
 
+-- samples in the low bits are asked to lie within the depth, and those in the high bits do
+enough : (c : tie.After-check-conversion) → let a = c .before .before .before .before .before .before .args in
+    T (among (a .codes .depth) depths16) → WithinIfLow (decoded (a .codes)) (frameOf (a .image) (a .y .now) (a .u .now) (a .v .now))
+    → WithinDepth (decoded (a .codes)) (frameOf (a .image) (a .y .now) (a .u .now) (a .v .now))
+enough c d asked =
+    words-within _ _ d
+    (λ i. omega (arith, c .before .before .before .before .before .shared-slice-known .given i))
+    (λ i. omega (arith, c .before .before .before .before .shared-slice-known2 .given i))
+    (λ i. omega (arith, c .before .before .before .shared-slice-known3 .given i)) asked
+
 convert-requires : tie.Need-convert-requires
 convert-requires c κs =
     let a = c .before .before .before .before .before .before .before .before .before .args in
@@ -39,12 +53,12 @@ same-length c = search needs
 returns : tie.Need-returns
 returns c =
     let a = c .before .before .before .before .before .before .before .before .before .before .before .before .args in
-    converted depths16 depth-of-16 (a .codes) (a .image) (a .y .now) (a .u .now) (a .v .now) (a .rgb-stride) (a .rgb .now) (told (c .before .before .before .before .before .before .check-conversion .result)) (answer (c .before .before .before .before .before .before)) WithinDepth (λ d w. w) (sym (c .before .before .before .before .before .is-accepted .ensures) ∙ c .before .before .before .before .if1 .taken) (c .before .before .convert .last .1 .1 .1 .1 .1 .0) (c .before .before .convert .ensures)
+    converted depths16 depth-of-16 (a .codes) (a .image) (a .y .now) (a .u .now) (a .v .now) (a .rgb-stride) (a .rgb .now) (told (c .before .before .before .before .before .before .check-conversion .result)) (answer (c .before .before .before .before .before .before)) WithinIfLow (enough (c .before .before .before .before .before .before)) (sym (c .before .before .before .before .before .is-accepted .ensures) ∙ c .before .before .before .before .if1 .taken) (c .before .before .convert .last .1 .1 .1 .1 .1 .0) (c .before .before .convert .ensures)
 
 returns-2 : tie.Need-returns-2
 returns-2 c =
     let a = c .before .before .before .before .before .before .before .before .args in
-    untouched depths16 depth-of-16 (a .codes) (a .image) (a .y .now) (a .u .now) (a .v .now) (a .rgb-stride) (a .rgb .now) (told (c .before .before .check-conversion .result)) (answer (c .before .before)) WithinDepth (λ d w. w) (sym (c .before .is-accepted .ensures) ∙ c .if1 .left)
+    untouched depths16 depth-of-16 (a .codes) (a .image) (a .y .now) (a .u .now) (a .v .now) (a .rgb-stride) (a .rgb .now) (told (c .before .before .check-conversion .result)) (answer (c .before .before)) WithinIfLow (enough (c .before .before)) (sym (c .before .is-accepted .ensures) ∙ c .if1 .left)
 
 pub yuv16-to-rgbx-bilinear-spec : {M : Type 1} → statement M
 yuv16-to-rgbx-bilinear-spec =

@@ -16,10 +16,20 @@ range-of-requires c κs = search needs
 matrix-of-requires : tie.Need-matrix-of-requires
 matrix-of-requires c κs = search needs
 
+packing-of-requires : tie.Need-packing-of-requires
+packing-of-requires c κs = search needs
+
 returns : tie.Need-returns
-returns c = rw (c .before .before .before .sampling-of .ensures, c .before .before .order-of .ensures, c .before .range-of .ensures, c .matrix-of .ensures)
+returns c =
+    rw (c .before .before .before .before .sampling-of .ensures, c .before .before .before .order-of .ensures, c .before .before .range-of .ensures, c .before .matrix-of .ensures, c .packing-of .ensures)
 
 pub decode-spec : {M : Type 1} → statement M
 decode-spec =
     tie.close
-    (tie.spec sampling-of-requires order-of-requires range-of-requires matrix-of-requires returns)
+    (tie.spec
+    sampling-of-requires
+    order-of-requires
+    range-of-requires
+    matrix-of-requires
+    packing-of-requires
+    returns)

@@ -1,5 +1,6 @@
-//! Compares the settings used with those of the Rust, named and Custom, and with questions 2 and 13.
-use oracle::cases::{limit, EDGES};
+//! Compares the settings used with those of the Rust, named and Custom, and with questions 1, 2 and
+//! 13.
+use oracle::cases::{every_code, limit, packings, EDGES};
 use oracle::{library, model, random::Random, reference, tally::Tally, Codes};
 use std::process::ExitCode;
 
@@ -7,29 +8,34 @@ const DEPTHS: [u32; 3] = [8, 10, 12];
 
 fn main() -> ExitCode {
     let mut tally = Tally::default();
-    named(&mut tally);
-    unknown(&mut tally);
+    named_and_unknown(&mut tally);
     let mut random = Random(2024);
     for depth in DEPTHS {
         for range in 0..2 {
             let pairs = pairs(&mut random, depth, range);
             println!("depth {depth}, range {range}: {} Custom pairs", pairs.len());
             for (kr, kb) in pairs {
-                compare(&mut tally, depth, range, 6, kr, kb);
+                let (sampling, order) = (random.below(2), random.below(4));
+                let packing = random.pick(packings(depth));
+                let codes = Codes { depth, sampling, order, range, matrix: 6, packing, kr, kb };
+                compare(&mut tally, codes);
             }
         }
     }
     tally.finish("settings")
 }
 
-fn compare(tally: &mut Tally, depth: u32, range: u32, matrix: u32, kr: f32, kb: f32) {
-    let codes = Codes { depth, sampling: 0, order: 0, range, matrix, kr, kb };
+fn compare(tally: &mut Tally, codes: Codes) {
+    let Codes { depth, range, matrix, kr, kb, .. } = codes;
     let ours = library::settings(&codes);
-    let mut wanted = model::settings(depth, range, matrix, kr, kb);
+    let mut wanted = model::settings(&codes);
     if wanted.number == 0 {
         wanted = reference::settings(&codes);
     }
     tally.count(ours.number);
+    if ours.number == 2 && model::packing_alone(&DEPTHS, &codes) {
+        tally.count_packing();
+    }
     let text = |what: &str| {
         let (kr, kb) = (kr.to_bits(), kb.to_bits());
         format!("  {what} {codes:?}, kr {kr:#010x}, kb {kb:#010x}\n  ours   {ours:?}\n  wanted {wanted:?}")
@@ -45,28 +51,13 @@ fn compare(tally: &mut Tally, depth: u32, range: u32, matrix: u32, kr: f32, kb: 
     }
 }
 
-/// The 36 named settings, without weights and beside weights, which they ignore.
-fn named(tally: &mut Tally) {
-    for depth in DEPTHS {
-        for range in 0..2 {
-            for matrix in 0..6 {
-                for (kr, kb) in [(0.0, 0.0), (f32::NAN, 0.5), (0.5, 0.5), (-1.0, f32::INFINITY)] {
-                    compare(tally, depth, range, matrix, kr, kb);
-                }
-            }
-        }
-    }
-}
-
-/// Codes that are not known, singly and together, beside known ones.
-fn unknown(tally: &mut Tally) {
-    for depth in [0, 1, 7, 8, 9, 10, 11, 12, 13, 14, 16, 32, 264, u32::MAX] {
-        for range in [0, 1, 2, 3, 256, u32::MAX] {
-            for matrix in (0..10).chain([256, 262, u32::MAX]) {
-                for (kr, kb) in [(0.25, 0.25), (0.5, 0.5), (f32::NAN, 0.0)] {
-                    compare(tally, depth, range, matrix, kr, kb);
-                }
-            }
+/// Known and unknown codes in all combinations. The named matrices ignore the weights.
+fn named_and_unknown(tally: &mut Tally) {
+    const WEIGHTS: [(f32, f32); 5] =
+        [(0.0, 0.0), (0.25, 0.25), (0.5, 0.5), (f32::NAN, 0.5), (-1.0, f32::INFINITY)];
+    for codes in every_code() {
+        for (kr, kb) in WEIGHTS {
+            compare(tally, Codes { kr, kb, ..codes });
         }
     }
 }

@@ -21,7 +21,7 @@ fn main() {
 
 /// Settings at 8 bits, full range, RGB.
 fn full(sampling: u32, matrix: u32, kr: f32, kb: f32) -> Codes {
-    Codes { depth: 8, sampling, order: 0, range: 1, matrix, kr, kb }
+    Codes { depth: 8, sampling, order: 0, range: 1, matrix, packing: 0, kr, kb }
 }
 
 /// Planes of one colour.

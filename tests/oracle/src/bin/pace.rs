@@ -1,7 +1,7 @@
 //! Times frames of 1920 by 1080 against the scalar Rust: one thread, in turns, pixels compared.
 use oracle::cases::{planes, request, Samples, TIGHT};
 use oracle::library::Convert;
-use oracle::{random::Random, Codes, Planes, Request};
+use oracle::{random::Random, reference, tally::status, Codes, Planes, Request};
 use std::hint::black_box;
 use std::process::ExitCode;
 use std::time::Instant;
@@ -10,32 +10,42 @@ const ROUNDS: usize = 51;
 const WIDTH: u32 = 1920;
 const HEIGHT: u32 = 1080;
 
+/// 8 bits, 4:2:0 to RGBA, limited BT.709.
+const FRAME: Codes =
+    Codes { depth: 8, sampling: 0, order: 1, range: 0, matrix: 1, packing: 0, kr: 0.0, kb: 0.0 };
+
 fn main() -> ExitCode {
     println!("{WIDTH} by {HEIGHT}, limited BT.709, medians of {ROUNDS} rounds, in ms");
-    println!("{:32} {:>8} {:>8} {:>8}", "", "ours", "Rust", "ratio");
+    println!("{:36} {:>8} {:>8} {:>8}", "", "ours", "Rust", "ratio");
     let mut same = true;
     for smooth in [false, true] {
-        same &= measure::<u8>("8 bits, 4:2:0 to RGBA", 8, 0, 1, smooth);
-        same &= measure::<u8>("8 bits, 4:2:0 to RGB", 8, 0, 0, smooth);
-        same &= measure::<u8>("8 bits, 4:2:2 to RGBA", 8, 1, 1, smooth);
+        same &= measure::<u8>("8 bits, 4:2:0 to RGBA", FRAME, smooth);
+        same &= measure::<u8>("8 bits, 4:2:0 to RGB", Codes { order: 0, ..FRAME }, smooth);
+        same &= measure::<u8>("8 bits, 4:2:2 to RGBA", Codes { sampling: 1, ..FRAME }, smooth);
         #[cfg(feature = "level_b")]
         {
-            same &= measure::<u16>("10 bits, 4:2:0 to RGBA", 10, 0, 1, smooth);
+            let (low, high) =
+                (Codes { depth: 10, ..FRAME }, Codes { depth: 10, packing: 1, ..FRAME });
+            same &= measure::<u16>("10 bits, 4:2:0 to RGBA", low, smooth);
+            same &= measure::<u16>("10 bits high, 4:2:0 to RGBA", high, smooth);
         }
     }
     println!("{}", if same { "all pixels equal" } else { "PIXELS DIFFER" });
-    ExitCode::from(u8::from(!same))
+    status(same)
 }
 
 /// Prints a line of the table; whether the pixels are equal before and after the measurement.
-fn measure<T: Convert>(name: &str, depth: u32, sampling: u32, order: u32, smooth: bool) -> bool {
-    let codes = Codes { depth, sampling, order, range: 0, matrix: 1, kr: 0.0, kb: 0.0 };
+/// Samples in the high bits are divided for the Rust beforehand, so that dividing is not counted for
+/// it; for the library it is.
+fn measure<T: Convert>(name: &str, codes: Codes, smooth: bool) -> bool {
     let q = request(codes, WIDTH, HEIGHT, TIGHT);
     let mut planes =
         if smooth { gradient::<T>(&q) } else { planes(&mut Random(7), Samples::Within, &q) };
+    let divided = reference::divided(&codes, &planes);
+    let low = Request { codes: Codes { packing: 0, ..codes }, ..q };
     let (mut ours, mut rust) = (vec![T::low(0); q.rgb.len], vec![T::low(1); q.rgb.len]);
     let accepted = T::convert(&q, &mut planes, &mut ours).number == 0;
-    T::reference(&q, &planes, &mut rust).expect("accepted");
+    T::reference(&low, divided.as_ref().unwrap_or(&planes), &mut rust).expect("accepted");
     let first = accepted && ours == rust;
     let mut times = [Vec::new(), Vec::new()];
     for round in 0..2 * ROUNDS {
@@ -45,13 +55,14 @@ fn measure<T: Convert>(name: &str, depth: u32, sampling: u32, order: u32, smooth
         if which == 0 {
             black_box(T::convert(black_box(&q), &mut planes, &mut ours));
         } else {
-            black_box(T::reference(black_box(&q), &planes, &mut rust)).expect("accepted");
+            let planes = divided.as_ref().unwrap_or(&planes);
+            black_box(T::reference(black_box(&low), planes, &mut rust)).expect("accepted");
         }
         times[which].push(start.elapsed().as_secs_f64() * 1000.0);
     }
     let [ours_ms, rust_ms] = times.map(median);
     let name = format!("{name}, {}", if smooth { "smooth" } else { "random" });
-    println!("{name:32} {ours_ms:8.3} {rust_ms:8.3} {:8.3}", ours_ms / rust_ms);
+    println!("{name:36} {ours_ms:8.3} {rust_ms:8.3} {:8.3}", ours_ms / rust_ms);
     first && ours == rust
 }
 
@@ -62,7 +73,7 @@ fn median(mut times: Vec<f64>) -> f64 {
 
 /// Luma rising along the diagonal, Cb along the columns, Cr along the rows.
 fn gradient<T: Convert>(q: &Request) -> Planes<T> {
-    let max = (1 << q.codes.depth) - 1;
+    let max = (1 << if q.codes.packing == 1 { 16 } else { q.codes.depth }) - 1;
     let plane = |len: usize, stride: u32, across: usize, down: usize| {
         let value = move |i: usize| {
             let (row, column) = (i / stride as usize, i % stride as usize);

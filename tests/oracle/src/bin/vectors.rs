@@ -1,11 +1,11 @@
 //! Writes the list that crates/oracle_vectors replays: calls on small buffers, and what the Rust
 //! answers to each. Every call is one that the Rust answers itself: known codes, weights that
 //! question 13 lets through, sides up to 12.
-use oracle::cases::{codes, request, Element, Slack, TIGHT};
+use oracle::cases::{codes, packings, request, Element, Slack, TIGHT};
 use oracle::random::Random;
 use oracle::{model, reference, Answer, Codes, Extent, Planes, Request};
 
-const COLUMNS: &str = "depth sampling order range matrix kr kb width height \
+const COLUMNS: &str = "depth sampling order range matrix packing kr kb width height \
     y_stride u_stride v_stride rgb_stride y_len u_len v_len rgb_len seed top ends \
     number expected received sum max bias_y bias_uv y cr cb g1 g2";
 
@@ -68,7 +68,7 @@ fn add<T: Summed>(list: &mut List, mut q: Request, top: u64, ends: bool) {
     let seed = list.lines.len() as u64 + 1;
     let mut sequence = Sequence(seed);
     let planes: Planes<T> = [q.y, q.u, q.v].map(|plane| sequence.fill(plane.len, top, ends));
-    let mut rgb: Vec<T> = sequence.fill(q.rgb.len, (1 << T::BITS) - 1, false);
+    let mut rgb: Vec<T> = sequence.fill(q.rgb.len, most::<T>(), false);
     let outcome = T::reference(&q, &planes, &mut rgb);
     // The Rust has one name for 9 to 12: which of them it is follows from their order.
     let answer = model::conversion(T::BITS, &q);
@@ -79,12 +79,13 @@ fn add<T: Summed>(list: &mut List, mut q: Request, top: u64, ends: bool) {
 }
 
 #[rustfmt::skip]
-fn line(q: &Request, [seed, top, ends]: [u64; 3], answer: Answer, sum: u64) -> [u64; 32] {
+fn line(q: &Request, [seed, top, ends]: [u64; 3], answer: Answer, sum: u64) -> [u64; 33] {
     let (c, s) = (&q.codes, reference::settings(&q.codes));
     let small = |number: u32| u64::from(number);
     [
         small(c.depth), small(c.sampling), small(c.order), small(c.range), small(c.matrix),
-        small(c.kr.to_bits()), small(c.kb.to_bits()), small(q.width), small(q.height),
+        small(c.packing), small(c.kr.to_bits()), small(c.kb.to_bits()),
+        small(q.width), small(q.height),
         small(q.y.stride), small(q.u.stride), small(q.v.stride), small(q.rgb.stride),
         q.y.len as u64, q.u.len as u64, q.v.len as u64, q.rgb.len as u64, seed, top, ends,
         answer.number, answer.expected, answer.received, sum,
@@ -109,16 +110,24 @@ fn spare(random: &mut Random) -> [Slack; 4] {
     [(); 4].map(|_| (random.below(6).into(), random.below(30).into()))
 }
 
-/// Samples within the depth, at its ends, and up to the element's width.
-fn fillings<T: Element>(depth: u32) -> [(u64, bool); 3] {
-    [((1 << depth) - 1, false), ((1 << depth) - 1, true), ((1 << T::BITS) - 1, false)]
+/// The largest element.
+fn most<T: Element>() -> u64 {
+    (1 << T::BITS) - 1
 }
 
-/// Every setting with every kind of samples, on buffers at and above their limits.
+/// Samples within the depth, at its ends, and up to the element's width. In the high bits every
+/// element is within the depth.
+fn fillings<T: Element>(codes: &Codes) -> [(u64, bool); 3] {
+    let within = if codes.packing == 1 { most::<T>() } else { (1 << codes.depth) - 1 };
+    [(within, false), (within, true), (most::<T>(), false)]
+}
+
+/// Every setting with every kind of samples, on buffers at and above their limits; u16 samples of
+/// each kind once in each packing.
 fn settings<T: Summed>(list: &mut List) {
     for n in 0..16 * 8 * T::DEPTHS.len() as u32 {
         let depth = T::DEPTHS[n as usize / 128];
-        for (top, ends) in fillings::<T>(depth) {
+        for kind in 0..3 {
             let random = &mut list.random;
             let drawn = usable::<T>(random);
             let (sampling, order, range) = (n % 2, n / 2 % 4, n / 8 % 2);
@@ -129,9 +138,12 @@ fn settings<T: Summed>(list: &mut List) {
                 c = Codes { matrix: 6, kr: weights.kr, kb: weights.kb, ..c };
             }
             let (width, height) = (random.between(1, 12), random.between(1, 12));
-            let slack = spare(random);
-            add::<T>(list, request(c, width, height, TIGHT), top, ends);
-            add::<T>(list, request(c, width, height, slack), top, ends);
+            for (turn, slack) in [TIGHT, spare(random)].into_iter().enumerate() {
+                let known = packings(depth);
+                let c = Codes { packing: known[(kind + turn) % known.len()], ..c };
+                let (top, ends) = fillings::<T>(&c)[kind];
+                add::<T>(list, request(c, width, height, slack), top, ends);
+            }
         }
     }
 }
@@ -141,7 +153,7 @@ fn sides<T: Summed>(list: &mut List) {
     for (width, height) in (0..144).map(|n| (n % 12 + 1, n / 12 + 1)) {
         for sampling in 0..2 {
             let c = Codes { sampling, ..usable::<T>(&mut list.random) };
-            let (top, ends) = list.random.pick(&fillings::<T>(c.depth));
+            let (top, ends) = list.random.pick(&fillings::<T>(&c));
             add::<T>(list, request(c, width, height, TIGHT), top, ends);
         }
     }
@@ -154,7 +166,7 @@ fn refusals<T: Summed>(list: &mut List) {
         let c = usable::<T>(&mut list.random);
         let side = list.random.below(12);
         let (width, height) = if n % 2 == 0 { (0, side) } else { (side, 0) };
-        add::<T>(list, request(c, width, height, TIGHT), 255, false);
+        add::<T>(list, request(c, width, height, TIGHT), most::<T>(), false);
     }
     for n in 0..400 {
         let random = &mut list.random;
@@ -165,7 +177,7 @@ fn refusals<T: Summed>(list: &mut List) {
             let (stride, len) = &mut slack[fault as usize / 2];
             *if fault % 2 == 0 { stride } else { len } = -1;
         }
-        add::<T>(list, request(c, width, height, slack), 255, false);
+        add::<T>(list, request(c, width, height, slack), most::<T>(), false);
     }
     for n in 0..60 {
         let random = &mut list.random;
@@ -175,6 +187,6 @@ fn refusals<T: Summed>(list: &mut List) {
         let stride = random.pick(&[0, 1 << 31, u32::MAX]);
         let buffers: [&mut Extent; 4] = [&mut q.rgb, &mut q.y, &mut q.u, &mut q.v];
         buffers[n % 4].stride = stride;
-        add::<T>(list, q, 255, false);
+        add::<T>(list, q, most::<T>(), false);
     }
 }

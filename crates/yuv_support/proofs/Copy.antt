@@ -1,11 +1,11 @@
 -- What a loop keeps that copies the first n elements of one list to another, at whatever width: the first i are the same.
 -- Assumes nothing.
-use mathlib.Core.Path.{_≡_, refl, _∙_}
+use mathlib.Core.Path.{_≡_, refl, sym, _∙_}
 use mathlib.Core.List.{List}
 use Prim.Native.Nat.{ℕ, suc, _+_, _≤_, _<_}
 use native.Mathlib.Omega.{arith}
 use lib.ListN.{length, take, getD, set, length-set}
-use lib.Seq.{take-suc, take-suc-set}
+use lib.Seq.{take-suc, take-suc-set, take-all}
 
 pub record Copied (from to₀ : List ℕ) (n : ℕ) (to : List ℕ) (i : ℕ) : Type 0 where
   pub most : i ≤ n
@@ -30,3 +30,8 @@ module _ {from to₀ : List ℕ} {n : ℕ} where
 
   pub copied-all : {to : List ℕ} {i : ℕ} → Copied from to₀ n to i → n ≤ i → take n to ≡ take n from
   copied-all {to} {i} c h = let e : n ≡ i = omega (arith, c .most) in rw e (c .same)
+
+-- two lists of n elements whose first n are the same
+pub whole-same : (n : ℕ) (a b : List ℕ) → length a ≡ n → length b ≡ n → take n a ≡ take n b → a ≡ b
+whole-same n a b la lb e =
+    sym (take-all n a (let h : length a ≤ n = omega arith in h)) ∙ e ∙ take-all n b (let h : length b ≤ n = omega arith in h)

@@ -1,0 +1,133 @@
+-- `convert_high16::convert_rows` meets its contract. The loop is that of `RowsDone`, and the buffers hold what `Buffers` says.
+-- Assumes nothing.
+use borrow.Author.Needs.{needs}
+use mathlib.Core.Path.{refl, sym, _∙_}
+use Prim.Native.Nat.{_-_}
+use native.Mathlib.Omega.{arith}
+use Rattle.yuv_support.specs.Blend.{frameOf}
+use Rattle.yuv_support.specs.Picture.{elementOf, band}
+use Rattle.kernel.proofs.Loops.{RowsDone, rows-begin, next-length, rows-next, rows-end}
+use Rattle.convert_high16.specs.Held.{Buffers}
+use Rattle.convert_high16.proofs.Held.{none-named}
+use Rattle.convert_high16.proofs.convert_rows.Statement.{statement}
+use Rattle.convert_high16.proofs.convert_rows.Tie as tie
+
+abbrev Inv-loop : tie.InvT-loop
+Inv-loop rgb₀ y u v s image rgb-stride k first count n stride end luma₀ us₀ vs₀ u-held₀ v-held₀ r₀ rgb luma us vs u-held v-held r =
+    RowsDone (elementOf s (frameOf image y u v)) stride n first end rgb₀ rgb r × Buffers s (frameOf image y u v) luma us vs u-held v-held
+
+abbrev μ-loop : tie.MeasureT-loop
+μ-loop rgb₀ y u v s image rgb-stride k first count n stride end luma₀ us₀ vs₀ u-held₀ v-held₀ r₀ rgb luma us vs u-held v-held r = end - r
+
+row-length-requires : tie.Need-row-length-requires Inv-loop μ-loop
+row-length-requires c κs = c .before .before .before .before .pre .0 .1 .width-most
+
+cast-n : tie.Need-cast-n Inv-loop μ-loop
+cast-n c = search needs
+
+add-end : tie.Need-add-end Inv-loop μ-loop
+add-end c = omega (arith, c .before .before .before .before .before .pre .1 .0, c .before .before .before .before .before .pre .0 .1 .height-most)
+
+loop-holds : tie.Need-loop-holds Inv-loop μ-loop
+loop-holds c =
+    let start = c .before .before .before .before .before in (
+      rows-begin (start .args .image .height) (c .row-length .ensures) (omega arith) (start .pre .1 .1) (start .pre .1 .2) (start .pre .1 .0),
+      record {
+        luma-room = refl;
+        u-room = refl;
+        v-room = refl;
+        u-names = refl;
+        v-names = refl;
+        u = λ row below e. absurd (none-named (start .args .s .sampling) (start .args .image .height) (start .pre .0 .1 .height-most) row below e);
+        v = λ row below e. absurd (none-named (start .args .s .sampling) (start .args .image .height) (start .pre .0 .1 .height-most) row below e);
+      },
+    )
+
+cast-at : tie.Need-cast-at Inv-loop μ-loop
+cast-at c = search needs
+
+mul-at : tie.Need-mul-at Inv-loop μ-loop
+mul-at c = omega (arith, c .before .loop .inv .0 .room (c .before .loop .r) (c .loop-test .taken), c .before .before .before .before .before .before .before .good .0 .0)
+
+add-convert-row : tie.Need-add-convert-row Inv-loop μ-loop
+add-convert-row c = omega (arith, c .before .loop .inv .0 .room (c .before .loop .r) (c .loop-test .taken), c .before .before .before .before .before .before .before .good .0 .0)
+
+mul-convert-row : tie.Need-mul-convert-row Inv-loop μ-loop
+mul-convert-row c = omega (arith, c .before .loop .inv .0 .room (c .before .loop .r) (c .loop-test .taken), c .before .before .before .before .before .before .before .good .0 .1)
+
+sub-convert-row : tie.Need-sub-convert-row Inv-loop μ-loop
+sub-convert-row c = omega arith
+
+part-convert-row-start : tie.Need-part-convert-row-start Inv-loop μ-loop
+part-convert-row-start c = omega arith
+
+part-convert-row-end : tie.Need-part-convert-row-end Inv-loop μ-loop
+part-convert-row-end c = omega (arith, c .before .loop .inv .0 .room (c .before .loop .r) (c .loop-test .taken), c .before .loop .inv .0 .same)
+
+slice-aggregate-convert-row : tie.Need-slice-aggregate-convert-row Inv-loop μ-loop
+slice-aggregate-convert-row c = sym (c .before .before .before .loop .inv .1 .luma-room)
+
+slice-aggregate-convert-row-2 : tie.Need-slice-aggregate-convert-row-2 Inv-loop μ-loop
+slice-aggregate-convert-row-2 c = sym (c .before .before .before .before .loop .inv .1 .u-room)
+
+slice-aggregate-convert-row-3 : tie.Need-slice-aggregate-convert-row-3 Inv-loop μ-loop
+slice-aggregate-convert-row-3 c = sym (c .before .before .before .before .before .loop .inv .1 .v-room)
+
+slice-aggregate-convert-row-4 : tie.Need-slice-aggregate-convert-row-4 Inv-loop μ-loop
+slice-aggregate-convert-row-4 c = sym (c .before .before .before .before .before .before .loop .inv .1 .u-names)
+
+slice-aggregate-convert-row-5 : tie.Need-slice-aggregate-convert-row-5 Inv-loop μ-loop
+slice-aggregate-convert-row-5 c = sym (c .before .before .before .before .before .before .before .loop .inv .1 .v-names)
+
+convert-row-requires : tie.Need-convert-row-requires Inv-loop μ-loop
+convert-row-requires c κs =
+    let start = c .before .before .before .before .before .before .before .before .before .before .before .before .before in
+    let inv = c .before .before .before .before .before .before .before .loop .inv in
+    (start .pre .0, ((omega (arith, start .pre .1 .0, c .before .before .before .before .before .before .loop-test .taken), next-length (inv .0) (c .before .before .before .before .before .before .loop-test .taken) ∙ c .before .before .before .before .before .before .before .before .row-length .ensures), inv .1))
+
+add-r : tie.Need-add-r Inv-loop μ-loop
+add-r c = omega arith
+
+loop-less : tie.Need-loop-less Inv-loop μ-loop
+loop-less c = omega arith
+
+loop-again : tie.Need-loop-again Inv-loop μ-loop
+loop-again c =
+    let row = c .before .before .before .before .before .before .before .convert-row .ensures in
+    (rows-next (c .before .before .before .before .before .before .before .before .before .before .before .before .before .before .before .loop .inv .0) (c .before .before .before .before .before .before .before .before .before .before .before .before .before .before .loop-test .taken) (row .0), row .1)
+
+same-length : tie.Need-same-length Inv-loop μ-loop
+same-length c = c .before .loop .inv .0 .same
+
+returns : tie.Need-returns Inv-loop μ-loop
+unfolding band
+returns c = rows-end (c .before .before .before .before .before .before .before .args .count) (c .before .before .row-length .ensures) refl (c .before .loop .inv .0) (c .loop-test .left)
+
+pub convert-rows-spec : {M : Type 1} → statement M
+convert-rows-spec =
+    tie.close
+    (tie.spec
+    Inv-loop
+    μ-loop
+    row-length-requires
+    cast-n
+    add-end
+    loop-holds
+    cast-at
+    mul-at
+    add-convert-row
+    mul-convert-row
+    sub-convert-row
+    part-convert-row-start
+    part-convert-row-end
+    slice-aggregate-convert-row
+    slice-aggregate-convert-row-2
+    slice-aggregate-convert-row-3
+    slice-aggregate-convert-row-4
+    slice-aggregate-convert-row-5
+    convert-row-requires
+    add-r
+    loop-less
+    loop-again
+    same-length
+    returns)
