@@ -24,22 +24,24 @@
  * Stack. A conversion of uint16_t planes takes about 100 KiB of the calling thread's stack, in
  * either packing; every other function takes less than 16 KiB. No memory is allocated.
  *
- * Bounds. Proved for BT.601, BT.709 and BT.2020 (matrices 0 to 2): each component is less than 8/5
- * codes (8 bits), 17/10 (10 bits) or 2 (12 bits) from the standard's exact equation, clamped to the
- * depth, of the pixel's luma and of its chroma as blended here but not rounded. For bytes this
+ * Bounds. Proved in both modes for BT.601, BT.709 and BT.2020 (matrices 0 to 2): each component is
+ * less than 8/5 codes (8 bits), 17/10 (10 bits) or 2 (12 bits) from the standard's exact equation,
+ * clamped to the depth, of the pixel's luma and of its chroma as blended here (Cr's tail by the mode)
+ * but not rounded. In matched mode SMPTE 240 at 8 bits is less than 8/5 from it too. For bytes this
  * holds always, and for samples in the high bits too, with the equation of the divided samples. For
  * samples in the low bits at 10 and 12 bits it holds where they are within the depth.
  *
- * Three things that a user who measures must know are kept from the Rust source; the figures stand
- * in docs/DIFFERENCES.md.
+ * Three things that a user who measures must know come from the Rust source; the figures stand in
+ * docs/DIFFERENCES.md. The first is kept in both modes; matched mode puts the other two right.
  *  - Where chroma lies. Sample k is taken to lie at luma column 2k - 1/2, in 4:2:0 also at luma row
  *    2k - 1/2. The usual places are others; against them chroma in the picture is moved to the
  *    left, in 4:2:0 also upwards: by 1 pixel where it was centred (at 2k + 1/2: JPEG, MPEG-1), by
  *    1/2 pixel where it was co-sited (at 2k: the columns of MPEG-2 and of 4:2:2). Luma is not moved.
  *  - Cr's tail. In 4:2:0, in rows that blend two chroma rows, the last two columns (at an odd width
- *    the last one) take Cb as (3 near + far)/4 but Cr as (near + 3 far)/4.
- *  - SMPTE 240 at 8 bits has the weights of red and blue exchanged; at 10 and 12 bits they stand
- *    right. Custom weights 0.212, 0.087 are the right ones at 8 bits.
+ *    the last one) take Cb as (3 near + far)/4. As in the source they take Cr as (near + 3 far)/4,
+ *    which may show as a reddish edge; matched, they take it as Cb.
+ *  - SMPTE 240 at 8 bits. As in the source the weights of red and blue are exchanged; matched, they
+ *    are 0.212 and 0.087. At 10 and 12 bits they stand right in both modes.
  */
 #ifndef DETHROWG_H
 #define DETHROWG_H
@@ -87,6 +89,13 @@ enum dethrowg_packing {
     DETHROWG_HIGH_BITS = 1
 };
 
+/* As in the Rust source, or with two of its departures put right: the tail of Cr, and the weights of
+ * SMPTE 240 at 8 bits (both above). All else is the same in both modes. */
+enum dethrowg_mode {
+    DETHROWG_AS_SOURCE = 0,
+    DETHROWG_MATCHED = 1
+};
+
 enum dethrowg_plane {
     DETHROWG_PLANE_U = 0,
     DETHROWG_PLANE_V = 1
@@ -100,6 +109,7 @@ typedef struct {
     uint32_t range;    /* enum dethrowg_range */
     uint32_t matrix;   /* enum dethrowg_matrix */
     uint32_t packing;  /* enum dethrowg_packing */
+    uint32_t mode;     /* enum dethrowg_mode */
     float kr, kb;      /* weights of red and blue for DETHROWG_CUSTOM; the others ignore them */
 } dethrowg_codes;
 
@@ -112,8 +122,8 @@ typedef struct {
 enum dethrowg_number {
     DETHROWG_ACCEPTED = 0,
     DETHROWG_SAMPLING_UNKNOWN = 1,     /* is sampling 0 or 1? */
-    DETHROWG_CODE_UNKNOWN = 2,         /* are the other codes and the depth known, and is the
-                                          packing one of that depth? */
+    DETHROWG_CODE_UNKNOWN = 2,         /* are the other codes (the mode too) and the depth known, and
+                                          is the packing one of that depth? */
     DETHROWG_SIDE_ZERO = 3,            /* are both sides at least 1? */
     DETHROWG_SIDE_TOO_LARGE = 4,       /* are both sides at most 16384? */
     DETHROWG_RGB_TOO_SHORT = 5,        /* is the destination long enough? (needed, actual) */

@@ -1,5 +1,6 @@
 /* Converts a small 4:2:0 frame of bytes to RGBA, prints the settings used, the picture and one
- * finished row, then a refused call. In the repository, after `rt staticlib dethrowg`:
+ * finished row, then a refused call, and a pixel of SMPTE 240 in both modes. In the repository, after
+ * `rt staticlib dethrowg`:
  *
  *   cc -std=c99 -Wall -I include examples/c/convert.c target/staticlib/libdethrowg.a -o target/convert_c
  *   target/convert_c
@@ -18,6 +19,7 @@ static const dethrowg_codes codes = {
     .range = DETHROWG_LIMITED,
     .matrix = DETHROWG_BT709,
     .packing = DETHROWG_LOW_BITS,
+    .mode = DETHROWG_AS_SOURCE,
 };
 
 static const dethrowg_image image = {
@@ -54,6 +56,22 @@ static dethrowg_answer convert(uint8_t *rgb, size_t rgb_len) {
 
 static dethrowg_part finished_row(const uint8_t *rgb, size_t rgb_len, uint32_t row) {
     return dethrowg_row8(codes.order, WIDTH, HEIGHT, rgb, rgb_len, STRIDE, row);
+}
+
+/* A pixel of SMPTE 240, full range: Y 100, Cb 128, Cr 178. */
+static dethrowg_answer convert_smpte240(uint32_t mode, uint8_t rgb[3]) {
+    const dethrowg_codes smpte240 = {
+        .depth = 8,
+        .sampling = DETHROWG_YUV420,
+        .order = DETHROWG_RGB,
+        .range = DETHROWG_FULL,
+        .matrix = DETHROWG_SMPTE240,
+        .packing = DETHROWG_LOW_BITS,
+        .mode = mode,
+    };
+    const dethrowg_image pixel = {1, 1, 1, 1, 1};
+    const uint8_t luma = 100, cb = 128, cr = 178;
+    return dethrowg_yuv8_to_rgb(smpte240, pixel, &luma, 1, &cb, 1, &cr, 1, rgb, 3, 3);
 }
 
 /* ---- printing */
@@ -98,5 +116,15 @@ int main(void) {
     printf("destination one element short, ");
     a = convert(rgb, sizeof rgb - 1);
     print_refusal(a.number, a.expected, a.received);
+
+    static const char *const modes[] = {"as in the source", "matched"};
+    for (uint32_t mode = DETHROWG_AS_SOURCE; mode <= DETHROWG_MATCHED; mode++) {
+        a = convert_smpte240(mode, rgb);
+        if (a.number != DETHROWG_ACCEPTED) {
+            print_refusal(a.number, a.expected, a.received);
+            return 1;
+        }
+        printf("SMPTE 240, %s: R %u, G %u, B %u\n", modes[mode], rgb[0], rgb[1], rgb[2]);
+    }
     return 0;
 }

@@ -22,6 +22,7 @@ RGB, RGBA, BGRA, BGR = range(4)
 LIMITED, FULL = range(2)
 BT601, BT709, BT2020, SMPTE240, BT470_6, FCC, CUSTOM = range(7)
 LOW_BITS, HIGH_BITS = range(2)
+AS_SOURCE, MATCHED = range(2)
 CHANNELS = {RGB: 3, RGBA: 4, BGRA: 4, BGR: 3}
 
 
@@ -29,7 +30,8 @@ class Codes(Structure):
     """The settings of a conversion. What is not given is 0."""
 
     _fields_ = [
-        (name, c_uint32) for name in ("depth", "sampling", "order", "range", "matrix", "packing")
+        (name, c_uint32)
+        for name in ("depth", "sampling", "order", "range", "matrix", "packing", "mode")
     ] + [("kr", c_float), ("kb", c_float)]
 
 

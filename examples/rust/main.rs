@@ -13,6 +13,7 @@ struct Codes {
     range: u32,
     matrix: u32,
     packing: u32,
+    mode: u32,
     kr: f32,
     kb: f32,
 }
@@ -79,6 +80,7 @@ const RGBA: u32 = 1;
 const LIMITED: u32 = 0;
 const BT709: u32 = 1;
 const LOW_BITS: u32 = 0;
+const AS_SOURCE: u32 = 0;
 
 const CODES: Codes = Codes {
     depth: 8,
@@ -87,6 +89,7 @@ const CODES: Codes = Codes {
     range: LIMITED,
     matrix: BT709,
     packing: LOW_BITS,
+    mode: AS_SOURCE,
     kr: 0.0,
     kb: 0.0,
 };

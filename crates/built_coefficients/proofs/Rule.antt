@@ -1,4 +1,4 @@
--- The rule of the stored rows: antt computes it at all 110 entries, and a lemma carries it to each row.
+-- The rule of the stored rows: antt computes it at all 120 entries, and a lemma carries it to each row.
 -- Assumes nothing.
 use mathlib.Core.Path.{_≡_}
 use mathlib.Core.Bool.{Bool, _&&_}
@@ -37,6 +37,8 @@ rows =
     (8192 ∷ 12901 ∷ 15201 ∷ 3835 ∷ 1535 ∷ []) ∷
     (9574 ∷ 13802 ∷ 17610 ∷ 5348 ∷ 1540 ∷ []) ∷
     (8192 ∷ 12080 ∷ 15412 ∷ 4681 ∷ 1348 ∷ []) ∷
+    (9539 ∷ 14697 ∷ 17029 ∷ 4445 ∷ 2113 ∷ []) ∷
+    (8192 ∷ 12911 ∷ 14959 ∷ 3904 ∷ 1856 ∷ []) ∷
     []
 
 abbrev pub transformOf : List ℕ → CbCrInverseTransform
@@ -60,6 +62,6 @@ same-is a b h =
 right : ℕ → List ℕ → Bool
 right k row = same (transformOf row) (rowAt k)
 
-pub row-is : (k : ℕ) → k < 22 → transformOf (getD rows k []) ≡ rowAt k
+pub row-is : (k : ℕ) → k < 24 → transformOf (getD rows k []) ≡ rowAt k
 unfolding right same rowAt storedOf exactY exactOuter exactInner maxOf rangeY rangeC weightR weightB weightG
 row-is k h = same-is (transformOf (getD rows k [])) (rowAt k) (every-at right rows [] tt k h)

@@ -8,21 +8,23 @@ use Rattle.yuv_support.specs.declared.YuvRange.{YuvRange}
 use Rattle.yuv_support.specs.declared.YuvRange.the-variants.{Limited, Full}
 use Rattle.yuv_support.specs.declared.YuvStandardMatrix.{YuvStandardMatrix}
 use Rattle.yuv_support.specs.declared.YuvStandardMatrix.the-variants.{Bt601, Bt709, Bt2020, Smpte240, Bt470_6, Fcc, Custom}
+use Rattle.yuv_support.specs.declared.YuvMode.{YuvMode}
+use Rattle.yuv_support.specs.declared.YuvMode.the-variants.{AsSource, Matched}
 use Rattle.yuv_support.specs.declared.CbCrInverseTransform.{CbCrInverseTransform}
 use Rattle.yuv_support.specs.Settings.{rangeOf, matrixOf}
 use Rattle.yuv_support.specs.Coefficients.{isStored, storedOf, NearestExact}
-use Rattle.yuv_support.specs.Distance.{measured}
+use Rattle.yuv_support.specs.Distance.{measuredAt}
 use Rattle.built_coefficients.specs.declared.BuiltTransform.{BuiltTransform}
 use Rattle.built_coefficients.specs.declared.BuiltTransform.the-variants.{Row, NoRow}
 
 -- the row where there is one
-unfoldable pub builtOf : ℕ → YuvRange → YuvStandardMatrix → BuiltTransform
-builtOf d r m = cond (isStored d m) (Row (storedOf d r m)) NoRow
+unfoldable pub builtOf : ℕ → YuvRange → YuvStandardMatrix → YuvMode → BuiltTransform
+builtOf d r m mode = cond (isStored d m) (Row (storedOf d r m mode)) NoRow
 
--- what the lookup promises of a row for BT.601, BT.709 and BT.2020: each coefficient is the whole number nearest the exact one
-unfoldable pub NearestRow : ℕ → YuvRange → YuvStandardMatrix → BuiltTransform → Type 0
-NearestRow d r m (Row k) = T (measured m) → NearestExact d r m k
-NearestRow d r m NoRow = Unit {0}
+-- what the lookup promises of the row of a measured setting: each coefficient is the whole number nearest the exact one
+unfoldable pub NearestRow : ℕ → YuvRange → YuvStandardMatrix → YuvMode → BuiltTransform → Type 0
+NearestRow d r m mode (Row k) = T (measuredAt d m mode) → NearestExact d r m k
+NearestRow d r m mode NoRow = Unit {0}
 
 -- the codes of a range and a matrix
 unfoldable pub rangeNumber : YuvRange → ℕ
@@ -38,10 +40,18 @@ matrixNumber Bt470_6 = 4
 matrixNumber Fcc = 5
 matrixNumber (Custom kr kb) = 6
 
--- row k of a depth's rows: by matrix, then range
+-- row k of a depth's rows as the source has them: by matrix, then range
 abbrev pub ruleAt : ℕ → ℕ → CbCrInverseTransform
-ruleAt d k = storedOf d (rangeOf (k % 2)) (matrixOf (k / 2) nan nan)
+ruleAt d k = storedOf d (rangeOf (k % 2)) (matrixOf (k / 2) nan nan) AsSource
 
--- row k of the table: ten rows of depth 8, six of depth 10, six of depth 12
+-- row k of the table: ten rows of depth 8, six of depth 10, six of depth 12, then `Smpte240` at depth 8, matched
 unfoldable pub rowAt : ℕ → CbCrInverseTransform
-rowAt k = cond (ltb k 10) (ruleAt 8 k) (cond (ltb k 16) (ruleAt 10 (k - 10)) (ruleAt 12 (k - 16)))
+rowAt k =
+    cond (ltb k 10) (ruleAt 8 k)
+    (cond (ltb k 16) (ruleAt 10 (k - 10))
+    (cond (ltb k 22) (ruleAt 12 (k - 16)) (storedOf 8 (rangeOf (k - 22)) Smpte240 Matched)))
+
+-- where the rows of `Smpte240` begin
+unfoldable pub smpte240Rows : YuvMode → ℕ
+smpte240Rows AsSource = 6
+smpte240Rows Matched = 22

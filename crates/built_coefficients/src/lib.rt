@@ -1,13 +1,15 @@
-// The stored inverse rows for precision 13: 22 rows of five coefficients, as the source has them, in one table.
+// The stored inverse rows for precision 13, in one table: 22 rows of five coefficients, as the source has them, and two of matched mode.
 use yuv_support::CbCrInverseTransform;
+use yuv_support::YuvMode;
 use yuv_support::YuvRange;
 use yuv_support::YuvStandardMatrix;
 ghost use mathlib.Core.Path.{_≡_};
 ghost use Prim.Native.Nat.{_<_};
-ghost use Rattle.built_coefficients.specs.Built.{builtOf, NearestRow, rowAt, matrixNumber, rangeNumber};
+ghost use Rattle.built_coefficients.specs.Built.{builtOf, NearestRow, rowAt, matrixNumber, rangeNumber, smpte240Rows};
 
-// y, cr, cb, g1, g2 of each row. The rows go by depth (8, 10, 12), then matrix, then range (limited, full).
-const ROWS: [[u32; 5]; 22] = [
+// y, cr, cb, g1, g2 of each row. The source's rows go by depth (8, 10, 12), then matrix, then range (limited, full); those of `Smpte240` at
+// depth 8 in matched mode come last.
+const ROWS: [[u32; 5]; 24] = [
     [9539, 13075, 16525, 6660, 3209],
     [8192, 11485, 14516, 5850, 2819],
     [9539, 14686, 17305, 4366, 1747],
@@ -30,6 +32,8 @@ const ROWS: [[u32; 5]; 22] = [
     [8192, 12901, 15201, 3835, 1535],
     [9574, 13802, 17610, 5348, 1540],
     [8192, 12080, 15412, 4681, 1348],
+    [9539, 14697, 17029, 4445, 2113],
+    [8192, 12911, 14959, 3904, 1856],
 ];
 
 // The stored row of a setting, or that it has none.
@@ -61,9 +65,19 @@ fn range_number(range: YuvRange) -> usize
     }
 }
 
+// Where the two rows of `Smpte240` begin.
+fn smpte240_rows(mode: YuvMode) -> usize
+    ensures { λ r. ⌜ r ≡ smpte240Rows mode ⌝ }
+{
+    match mode {
+        YuvMode::AsSource => 6,
+        YuvMode::Matched => 22,
+    }
+}
+
 // Row k of the table.
 fn row(k: usize) -> CbCrInverseTransform
-    requires { ⌜ k < 22 ⌝ }
+    requires { ⌜ k < 24 ⌝ }
     ensures { λ r. ⌜ r ≡ rowAt k ⌝ }
 {
     let row = ROWS[k];
@@ -76,18 +90,22 @@ fn row(k: usize) -> CbCrInverseTransform
     }
 }
 
-// The stored row of a depth, a range and a matrix. Depth 8 has five matrices, depths 10 and 12 have three.
+// The stored row of a depth, a range, a matrix and a mode. Depth 8 has five matrices, depths 10 and 12 have three.
 pub fn get_built_inverse_transform(
     depth: u32,
     range: YuvRange,
     matrix: YuvStandardMatrix,
+    mode: YuvMode,
 ) -> BuiltTransform
-    ensures { λ r. ⌜ r ≡ builtOf depth range matrix ⌝ }
-    ensures { λ r. ⌜ NearestRow depth range matrix r ⌝ }
+    ensures { λ r. ⌜ r ≡ builtOf depth range matrix mode ⌝ }
+    ensures { λ r. ⌜ NearestRow depth range matrix mode r ⌝ }
 {
     let m = matrix_number(matrix);
     let r = range_number(range);
     if depth == 8 {
+        if m == 3 {
+            return BuiltTransform::Row(row(smpte240_rows(mode) + r));
+        }
         if m < 5 {
             return BuiltTransform::Row(row(2 * m + r));
         }

@@ -10,11 +10,12 @@ ghost use Rattle.numerics.specs.Kernel.{Bytes};
 ghost use Rattle.kernel.specs.Ordered.{orderedValue, OrderedFits, Ready};
 use numerics::Kernel;
 use yuv_support::Settings;
+use yuv_support::YuvMode;
 use yuv_support::YuvPlanarImage;
 use yuv_support::YuvSourceChannels;
 
 // One row in a channel order. The order is tested here, outside the loops: blue goes first by exchanging U and V.
-// In the tail Cr takes more of the far row, as the source has it.
+// Cr's tail goes by the mode.
 fn interpolate_row(
     row: &mut [u8],
     y: &[u8],
@@ -24,14 +25,15 @@ fn interpolate_row(
     vf: &[u8],
     width: usize,
     order: YuvSourceChannels,
+    mode: YuvMode,
     k: Kernel,
 )
     requires { ⌜ Bytes k × OrderedFits order (now row) (now y) (now un) (now uf) (now vn) (now vf) width ⌝ }
-    ensures { λ _. ⌜ now (row .exit) ≡ rowOf (λ r. orderedValue k order width (now (y .entry)) (now (un .entry)) (now (uf .entry)) (now (vn .entry)) (now (vf .entry))) 0 (now (row .entry)) ⌝ }
+    ensures { λ _. ⌜ now (row .exit) ≡ rowOf (λ r. orderedValue k order mode width (now (y .entry)) (now (un .entry)) (now (uf .entry)) (now (vn .entry)) (now (vf .entry))) 0 (now (row .entry)) ⌝ }
 {
     let last = (width + 1) / 2 - 1;
     let cb = numerics::tail8(un[last], uf[last]);
-    let cr = numerics::tail8(vf[last], vn[last]);
+    let cr = numerics::cr_tail8(vn[last], vf[last], mode);
     match order {
         YuvSourceChannels::Rgb => interpolate::interpolate3(
             row,
@@ -100,6 +102,7 @@ fn convert_row(
     ensures { λ _. ⌜ now (row .exit) ≡ rowOf (elementOf s (frameOf image (now (y .entry)) (now (u .entry)) (now (v .entry)))) r (now (row .entry)) ⌝ }
 {
     let order = s.order;
+    let mode = s.mode;
     let sampling = s.sampling;
     let p = images::chroma_rows(sampling, image.width, image.height, r);
     let luma = images::row8(y, image.y_stride, r, image.width);
@@ -107,7 +110,8 @@ fn convert_row(
     let uf = images::row8(u, image.u_stride, p.other, p.columns);
     let vn = images::row8(v, image.v_stride, p.near, p.columns);
     let vf = images::row8(v, image.v_stride, p.other, p.columns);
-    interpolate_row(row, luma, un, uf, vn, vf, image.width as usize, order, k);
+    let width = image.width as usize;
+    interpolate_row(row, luma, un, uf, vn, vf, width, order, mode, k);
 }
 
 // `count` rows from row `first` on. All else in the destination is kept.

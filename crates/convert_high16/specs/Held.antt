@@ -5,6 +5,7 @@ use mathlib.Core.List.{List, map}
 use Prim.Native.Nat.{ℕ, _-_, _*_, _/_, _%_, _^_, _≤_, _<_}
 use lib.ListN.{length, take, getD}
 use Rattle.yuv_support.specs.declared.YuvSourceChannels.{YuvSourceChannels}
+use Rattle.yuv_support.specs.declared.YuvMode.{YuvMode}
 use Rattle.yuv_support.specs.declared.Settings.{Settings}
 use Rattle.yuv_support.specs.Blend.{Frame, chromaWidth, chromaHeight}
 use Rattle.yuv_support.specs.Picture.{channelsOf}
@@ -33,9 +34,9 @@ Held shift rows columns stride plane buffer held =
 -- ---- a luma row's samples in the buffers, p being its chroma rows
 
 -- element x of the row that they make
-abbrev pub heldValue : Kernel → YuvSourceChannels → ℕ → List ℕ → List ℕ → List ℕ → ChromaRows → ℕ → ℕ
-heldValue k order width luma us vs p x =
-    orderedValue k order width (take width luma)
+abbrev pub heldValue : Kernel → YuvSourceChannels → YuvMode → ℕ → List ℕ → List ℕ → List ℕ → ChromaRows → ℕ → ℕ
+heldValue k order mode width luma us vs p x =
+    orderedValue k order mode width (take width luma)
     (halfOf (p .columns) us (p .near)) (halfOf (p .columns) us (p .other))
     (halfOf (p .columns) vs (p .near)) (halfOf (p .columns) vs (p .other)) x
 

@@ -13,6 +13,7 @@ ghost use Rattle.convert_high16.specs.Held.{dividedBy, Held, heldValue, 
 use images::ChromaRows;
 use numerics::Kernel;
 use yuv_support::Settings;
+use yuv_support::YuvMode;
 use yuv_support::YuvPlanarImage;
 use yuv_support::YuvSourceChannels;
 
@@ -87,16 +88,17 @@ fn interpolate_held(
     p: ChromaRows,
     width: usize,
     order: YuvSourceChannels,
+    mode: YuvMode,
     k: Kernel,
 )
     requires { ⌜ Words k × HeldFits order (now row) (now luma) (now us) (now vs) p width ⌝ }
-    ensures { λ _. ⌜ now (row .exit) ≡ rowOf (λ r. heldValue k order width (now (luma .entry)) (now (us .entry)) (now (vs .entry)) p) 0 (now (row .entry)) ⌝ }
+    ensures { λ _. ⌜ now (row .exit) ≡ rowOf (λ r. heldValue k order mode width (now (luma .entry)) (now (us .entry)) (now (vs .entry)) p) 0 (now (row .entry)) ⌝ }
 {
     let un = images::row16(us, 8192, p.near % 2, p.columns);
     let uf = images::row16(us, 8192, p.other % 2, p.columns);
     let vn = images::row16(vs, 8192, p.near % 2, p.columns);
     let vf = images::row16(vs, 8192, p.other % 2, p.columns);
-    convert16::interpolate_row(row, &luma[..width], un, uf, vn, vf, width, order, k);
+    convert16::interpolate_row(row, &luma[..width], un, uf, vn, vf, width, order, mode, k);
 }
 
 // Row r of the picture, into a part that is as long as the row.
@@ -122,6 +124,7 @@ fn convert_row(
     ensures { λ _. ⌜ Buffers s (frameOf image (now (y .entry)) (now (u .entry)) (now (v .entry))) (now (luma .exit)) (now (us .exit)) (now (vs .exit)) (now («u_held» .exit)) (now («v_held» .exit)) ⌝ }
 {
     let order = s.order;
+    let mode = s.mode;
     let sampling = s.sampling;
     let shift = 16 - s.depth;
     let p = images::chroma_rows(sampling, image.width, image.height, r);
@@ -129,7 +132,7 @@ fn convert_row(
     hold_both(v, image.v_stride, shift, p, vs, v_held);
     let lent = images::row16(y, image.y_stride, r, image.width);
     unpack(luma, lent, shift);
-    interpolate_held(row, luma, us, vs, p, image.width as usize, order, k);
+    interpolate_held(row, luma, us, vs, p, image.width as usize, order, mode, k);
 }
 
 // `count` rows from row `first` on. All else in the destination is kept.

@@ -28,7 +28,8 @@ depth-held depthKnown c h =
     let known = and-eq-true-iff (leb (c .order) 3) _ .0 h in
     let known′ = and-eq-true-iff (leb (c .range) 1) _ .0 (known .1) in
     let known″ = and-eq-true-iff (leb (c .matrix) 6) _ .0 (known′ .1) in
-    and-eq-true-iff (leb (c .packing) (lastPacking (c .depth))) depthKnown .0 (known″ .1) .1
+    let known‴ = and-eq-true-iff (leb (c .packing) (lastPacking (c .depth))) _ .0 (known″ .1) in
+    and-eq-true-iff (leb (c .mode) 1) depthKnown .0 (known‴ .1) .1
 
 -- the same where question 2 alone was asked
 pub depth-accepted : (depthKnown : Bool) (c : Codes) → verdict (codesKnown depthKnown c ∷ []) .number ≡ 0 → depthKnown ≡ true

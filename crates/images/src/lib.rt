@@ -161,6 +161,9 @@ pub fn check_codes(codes: Codes, depth_known: bool) -> YuvError
     if yuv_support::last_packing(codes.depth) < codes.packing {
         return YuvError::UnknownCode;
     }
+    if 1 < codes.mode {
+        return YuvError::UnknownCode;
+    }
     if depth_known {
         return YuvError::Accepted;
     }
@@ -230,10 +233,9 @@ fn check_weights(codes: Codes) -> YuvError
     requires { ⌜ T (among (codes .depth) depths) ⌝ }
     ensures { λ r. ⌜ told r ≡ verdict (weightsUsable (decoded codes) ∷ []) ⌝ }
 {
-    let range = yuv_support::range_of(codes.range);
-    let matrix = yuv_support::matrix_of(codes.matrix, codes.kr, codes.kb);
-    let transform = inverse_transform::search_inverse_transform(codes.depth, range, matrix);
-    if inverse_transform::is_usable(matrix, transform) {
+    let s = yuv_support::decode(codes);
+    let matrix = s.matrix;
+    if inverse_transform::is_usable(matrix, inverse_transform::search_inverse_transform(s)) {
         return YuvError::Accepted;
     }
     YuvError::UnusableWeights

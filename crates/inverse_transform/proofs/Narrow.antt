@@ -1,8 +1,8 @@
--- The coefficients of a usable setting are narrow. For a matrix by name antt computes them at each depth and range.
+-- The coefficients of a usable setting are narrow. For a matrix by name antt computes them at each depth, range and mode.
 -- For Custom: 1 − k is at most 1, M/RC at most 5/4, so (2·(1 − k))·(M/RC)·8192 is at most 20480; question 13 itself limits green.
 -- Assumes nothing.
 use mathlib.Core.Path.{_≡_, refl}
-use mathlib.Core.Bool.{Bool, false, _&&_}
+use mathlib.Core.Bool.{Bool, false, cond, _&&_}
 use Prim.Native.Nat.{ℕ, _+_, _≤_}
 use lib.Dec.{T, leb, leb→le, lit<, lit≤}
 use lib.IntN.{pos}
@@ -13,10 +13,13 @@ use Rattle.yuv_support.specs.declared.YuvRange.{YuvRange}
 use Rattle.yuv_support.specs.declared.YuvRange.the-variants.{Limited, Full}
 use Rattle.yuv_support.specs.declared.YuvStandardMatrix.{YuvStandardMatrix}
 use Rattle.yuv_support.specs.declared.YuvStandardMatrix.the-variants.{Bt601, Bt709, Bt2020, Smpte240, Bt470_6, Fcc, Custom}
+use Rattle.yuv_support.specs.declared.YuvMode.{YuvMode}
+use Rattle.yuv_support.specs.declared.YuvMode.the-variants.{AsSource, Matched}
 use Rattle.yuv_support.specs.declared.YuvBias.{YuvBias}
 use Rattle.yuv_support.specs.declared.CbCrInverseTransform.{CbCrInverseTransform}
+use Rattle.yuv_support.specs.declared.Settings.{Settings}
 use Rattle.yuv_support.specs.Settings.{among, depths, maxOf, rangeY, rangeC, weightR, weightB, weightG, weightsOf}
-use Rattle.yuv_support.specs.Coefficients.{exactY, exactOuter, exactInner, storedOf, isStored, f32, ratio, greenWeight, outer, inner, roundAway, integer, computedOf, coefficientsOf, isWeight, greenFits, usable}
+use Rattle.yuv_support.specs.Coefficients.{exactY, exactOuter, exactInner, storedOf, isStored, f32, ratio, greenWeight, outer, inner, roundAway, integer, computedOf, coefficientsOf, isWeight, greenFits, customUsable, usableWith, usable}
 use Rattle.yuv_support.proofs.Depths.{by-depth}
 use Rattle.inverse_transform.specs.Narrow.{Narrow}
 use Rattle.inverse_transform.proofs.AtMost.{AtMost, mul-at-most, one-minus, round-away-at-most}
@@ -94,16 +97,20 @@ narrow-of-test t h =
       green = leb→le (t .g1 + t .g2) 32767 (and-r cb g h2);
     }
 
-module _ (d : ℕ) (r : YuvRange) (m : YuvStandardMatrix) (known : T (among d depths)) where
-  at-each-depth : T (isNarrow (coefficientsOf 8 r m)) → T (isNarrow (coefficientsOf 10 r m)) → T (isNarrow (coefficientsOf 12 r m))
-      → Narrow (coefficientsOf d r m)
-  at-each-depth a b c = narrow-of-test (coefficientsOf d r m) (by-depth (λ d. T (isNarrow (coefficientsOf d r m))) a b c d known)
+-- the coefficients of a setting, by what they depend on
+abbrev found : ℕ → YuvRange → YuvStandardMatrix → YuvMode → CbCrInverseTransform
+found d r m mode = cond (isStored d m) (storedOf d r m mode) (computedOf d r m)
 
-custom-narrow : (d : ℕ) (r : YuvRange) (kr kb : Float) → T (among d depths) → T (usable d r (Custom kr kb)) → Narrow (coefficientsOf d r (Custom kr kb))
-unfolding coefficientsOf isStored computedOf weightsOf usable
-custom-narrow d r kr kb t u =
+module _ (d : ℕ) (r : YuvRange) (m : YuvStandardMatrix) (mode : YuvMode) (known : T (among d depths)) where
+  at-each-depth : T (isNarrow (found 8 r m mode)) → T (isNarrow (found 10 r m mode)) → T (isNarrow (found 12 r m mode)) → Narrow (found d r m mode)
+  at-each-depth a b c = narrow-of-test (found d r m mode) (by-depth (λ d. T (isNarrow (found d r m mode))) a b c d known)
+
+custom-narrow : (d : ℕ) (r : YuvRange) (kr kb : Float) (mode : YuvMode) → T (among d depths)
+    → T (customUsable (record { kr = kr; kb = kb }) (found d r (Custom kr kb) mode)) → Narrow (found d r (Custom kr kb) mode)
+unfolding isStored computedOf weightsOf customUsable
+custom-narrow d r kr kb mode t u =
     let k : YuvBias = record { kr = kr; kb = kb } in
-    let last = greenFits (coefficientsOf d r (Custom kr kb)) in
+    let last = greenFits (found d r (Custom kr kb) mode) in
     let above = lt (f32 0) (greenWeight k) in
     let u1 = and-r (isWeight kr) (isWeight kb && (above && last)) u in
     let scale = ratio-at-most d r t in
@@ -114,18 +121,24 @@ custom-narrow d r kr kb t u =
       green = leb→le _ 32767 (and-r above last (and-r (isWeight kb) (above && last) u1));
     }
 
-pub narrow : (d : ℕ) (r : YuvRange) (m : YuvStandardMatrix) → T (among d depths) → T (usable d r m) → Narrow (coefficientsOf d r m)
-unfolding isNarrow coefficientsOf isStored storedOf exactY exactOuter exactInner computedOf maxOf rangeY rangeC weightR weightB weightG weightsOf ratio greenWeight outer inner integer roundAway mul sub div ofInt round
-narrow d Limited Bt601 t u = at-each-depth d Limited Bt601 t tt tt tt
-narrow d Full Bt601 t u = at-each-depth d Full Bt601 t tt tt tt
-narrow d Limited Bt709 t u = at-each-depth d Limited Bt709 t tt tt tt
-narrow d Full Bt709 t u = at-each-depth d Full Bt709 t tt tt tt
-narrow d Limited Bt2020 t u = at-each-depth d Limited Bt2020 t tt tt tt
-narrow d Full Bt2020 t u = at-each-depth d Full Bt2020 t tt tt tt
-narrow d Limited Smpte240 t u = at-each-depth d Limited Smpte240 t tt tt tt
-narrow d Full Smpte240 t u = at-each-depth d Full Smpte240 t tt tt tt
-narrow d Limited Bt470_6 t u = at-each-depth d Limited Bt470_6 t tt tt tt
-narrow d Full Bt470_6 t u = at-each-depth d Full Bt470_6 t tt tt tt
-narrow d Limited Fcc t u = at-each-depth d Limited Fcc t tt tt tt
-narrow d Full Fcc t u = at-each-depth d Full Fcc t tt tt tt
-narrow d r (Custom kr kb) t u = custom-narrow d r kr kb t u
+found-narrow : (d : ℕ) (r : YuvRange) (m : YuvStandardMatrix) (mode : YuvMode) → T (among d depths) → T (usableWith m (found d r m mode)) → Narrow (found d r m mode)
+unfolding isNarrow isStored storedOf exactY exactOuter exactInner computedOf usableWith maxOf rangeY rangeC weightR weightB weightG weightsOf ratio greenWeight outer inner integer roundAway mul sub div ofInt round
+found-narrow d Limited Bt601 mode t u = at-each-depth d Limited Bt601 mode t tt tt tt
+found-narrow d Full Bt601 mode t u = at-each-depth d Full Bt601 mode t tt tt tt
+found-narrow d Limited Bt709 mode t u = at-each-depth d Limited Bt709 mode t tt tt tt
+found-narrow d Full Bt709 mode t u = at-each-depth d Full Bt709 mode t tt tt tt
+found-narrow d Limited Bt2020 mode t u = at-each-depth d Limited Bt2020 mode t tt tt tt
+found-narrow d Full Bt2020 mode t u = at-each-depth d Full Bt2020 mode t tt tt tt
+found-narrow d Limited Smpte240 AsSource t u = at-each-depth d Limited Smpte240 AsSource t tt tt tt
+found-narrow d Limited Smpte240 Matched t u = at-each-depth d Limited Smpte240 Matched t tt tt tt
+found-narrow d Full Smpte240 AsSource t u = at-each-depth d Full Smpte240 AsSource t tt tt tt
+found-narrow d Full Smpte240 Matched t u = at-each-depth d Full Smpte240 Matched t tt tt tt
+found-narrow d Limited Bt470_6 mode t u = at-each-depth d Limited Bt470_6 mode t tt tt tt
+found-narrow d Full Bt470_6 mode t u = at-each-depth d Full Bt470_6 mode t tt tt tt
+found-narrow d Limited Fcc mode t u = at-each-depth d Limited Fcc mode t tt tt tt
+found-narrow d Full Fcc mode t u = at-each-depth d Full Fcc mode t tt tt tt
+found-narrow d r (Custom kr kb) mode t u = custom-narrow d r kr kb mode t u
+
+pub narrow : (s : Settings) → T (among (s .depth) depths) → T (usable s) → Narrow (coefficientsOf s)
+unfolding coefficientsOf usable
+narrow s t u = found-narrow (s .depth) (s .range) (s .matrix) (s .mode) t u

@@ -1,2 +1,1 @@
-pub mod Usable
 pub mod Narrow

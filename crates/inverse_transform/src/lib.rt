@@ -1,15 +1,15 @@
-// The five coefficients of a depth, a range and a matrix: the stored row, or the f32 path where there is none. And question 13.
+// The five coefficients of a setting: the stored row, or the f32 path where there is none. And question 13.
 ghost use mathlib.Core.Path.{_≡_};
 ghost use mathlib.Core.Bool.{not};
 ghost use Prim.Native.Nat.{_<_, _^_};
 ghost use lib.Dec.{T};
 ghost use lib.Ieee.{binary32, ofBits, nanBits};
 ghost use Rattle.yuv_support.specs.Settings.{weightsOf, among, depths};
-ghost use Rattle.yuv_support.specs.Coefficients.{greenWeight, inverseTransform, roundAway, integer, toIntegers, computedOf, coefficientsOf, isWeight};
-ghost use Rattle.inverse_transform.specs.Usable.{customUsable, usableWith};
+ghost use Rattle.yuv_support.specs.Coefficients.{greenWeight, inverseTransform, roundAway, integer, toIntegers, computedOf, coefficientsOf, isWeight, customUsable, usableWith};
 use built_coefficients::BuiltTransform;
 use yuv_support::CbCrInverseTransform;
 use yuv_support::InverseTransformF32;
+use yuv_support::Settings;
 use yuv_support::YuvBias;
 use yuv_support::YuvRange;
 use yuv_support::YuvStandardMatrix;
@@ -142,17 +142,16 @@ fn computed(depth: u32, range: YuvRange, matrix: YuvStandardMatrix) -> CbCrInver
 }
 
 // The coefficients of a setting: the stored row, else the f32 path.
-pub fn search_inverse_transform(
-    depth: u32,
-    range: YuvRange,
-    matrix: YuvStandardMatrix,
-) -> CbCrInverseTransform
-    requires { ⌜ T (among depth depths) ⌝ }
-    ensures { λ r. ⌜ r ≡ coefficientsOf depth range matrix ⌝ }
+pub fn search_inverse_transform(s: Settings) -> CbCrInverseTransform
+    requires { ⌜ T (among (s .depth) depths) ⌝ }
+    ensures { λ r. ⌜ r ≡ coefficientsOf s ⌝ }
 {
-    match built_coefficients::get_built_inverse_transform(depth, range, matrix) {
+    let range = s.range;
+    let matrix = s.matrix;
+    let mode = s.mode;
+    match built_coefficients::get_built_inverse_transform(s.depth, range, matrix, mode) {
         BuiltTransform::Row(row) => row,
-        BuiltTransform::NoRow => computed(depth, range, matrix),
+        BuiltTransform::NoRow => computed(s.depth, range, matrix),
     }
 }
 
@@ -184,7 +183,7 @@ fn is_custom_usable(k: YuvBias, t: CbCrInverseTransform) -> bool
     t.g1 as u64 + t.g2 as u64 <= 32767
 }
 
-// Question 13, of a matrix and its coefficients at some depth and range. Always "yes" for a matrix by name.
+// Question 13, of a matrix and its coefficients in some setting. Always "yes" for a matrix by name.
 pub fn is_usable(matrix: YuvStandardMatrix, t: CbCrInverseTransform) -> bool
     ensures { λ r. ⌜ r ≡ usableWith matrix t ⌝ }
 {

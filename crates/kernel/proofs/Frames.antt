@@ -10,10 +10,12 @@ use native.Mathlib.Omega.{arith}
 use lib.Dec.{T}
 use lib.ListN.{length, getD}
 use Rattle.yuv_support.specs.declared.YuvBytesPacking.the-variants.{LeastSignificantBytes}
+use Rattle.yuv_support.specs.declared.YuvMode.{YuvMode}
+use Rattle.yuv_support.specs.declared.YuvMode.the-variants.{AsSource, Matched}
 use Rattle.yuv_support.specs.declared.Settings.{Settings}
 use Rattle.yuv_support.specs.Settings.{among, depths16, unpacked, samplesOf}
 use Rattle.yuv_support.specs.Coefficients.{coefficientsOf}
-use Rattle.yuv_support.specs.Blend.{Frame, Chroma, Cb, Cr, Rows, one, two, Place, left, right, tail, sixteenths, rowsOf, placeOf, nearRow, farRow, chromaWidth, chromaHeight, sample, lumaAt, chromaSample, chroma16, rounded}
+use Rattle.yuv_support.specs.Blend.{Frame, Chroma, Cb, Cr, Rows, one, two, Place, left, right, tail, sixteenths, rowsOf, placeOf, nearRow, farRow, chromaWidth, chromaHeight, sample, lumaAt, chromaSample, chroma16, tailOf, rounded}
 use Rattle.yuv_support.specs.Picture.{channelsOf, rowOf, elementOf}
 use Rattle.yuv_support.specs.Questions.{needed, partOf}
 use Rattle.yuv_support.proofs.Depths.{by-depth}
@@ -25,20 +27,21 @@ use Rattle.images.proofs.Rows.{near-row-below, other-row-below}
 use Rattle.numerics.specs.declared.Kernel.{Kernel}
 use Rattle.numerics.specs.Kernel.{Bytes, Words}
 use Rattle.numerics.specs.Row.{at}
-use Rattle.kernel.specs.Kernels.{redFirst, offsetOf, mostOf, tailOf, arranged, kernelOf}
+use Rattle.kernel.specs.Kernels.{redFirst, offsetOf, mostOf, arranged, kernelOf}
 use Rattle.kernel.specs.Ordered.{pick, lastOf, orderedValue, OrderedFits, Ready}
 use Rattle.kernel.proofs.Rows.{row-is}
 
 -- one chroma row has the weights of two equal ones
-one-as-two : (ch : Chroma) (place : Place) (a b c e : ℕ) → sixteenths ch one place a b c e ≡ sixteenths ch two place a b a b
+one-as-two : (mode : YuvMode) (ch : Chroma) (place : Place) (a b c e : ℕ) → sixteenths mode ch one place a b c e ≡ sixteenths mode ch two place a b a b
 unfolding sixteenths
-one-as-two ch left a b c e = omega arith
-one-as-two ch right a b c e = omega arith
-one-as-two Cb tail a b c e = omega arith
-one-as-two Cr tail a b c e = omega arith
+one-as-two mode ch left a b c e = omega arith
+one-as-two mode ch right a b c e = omega arith
+one-as-two mode Cb tail a b c e = omega arith
+one-as-two AsSource Cr tail a b c e = omega arith
+one-as-two Matched Cr tail a b c e = omega arith
 
 pub blended-as-two : (s : Settings) (f : Frame) (ch : Chroma) (row column : ℕ) → chroma16 s f ch row column
-    ≡ sixteenths ch two (placeOf (f .width) column)
+    ≡ sixteenths (s .mode) ch two (placeOf (f .width) column)
     (chromaSample s f ch (nearRow (s .sampling) (f .height) row) (column / 2))
     (chromaSample s f ch (nearRow (s .sampling) (f .height) row) (column / 2 + 1))
     (chromaSample s f ch (otherRow (s .sampling) (f .height) row) (column / 2))
@@ -52,13 +55,13 @@ blended-as-two s f ch row column = go (rowsOf (s .sampling) (f .height) row)
     far : ℕ
     far = farRow (s .sampling) (f .height) row
 
-    go : (rows : Rows) → sixteenths ch rows (placeOf (f .width) column)
+    go : (rows : Rows) → sixteenths (s .mode) ch rows (placeOf (f .width) column)
         (chromaSample s f ch near (column / 2)) (chromaSample s f ch near (column / 2 + 1))
         (chromaSample s f ch far (column / 2)) (chromaSample s f ch far (column / 2 + 1))
-        ≡ sixteenths ch two (placeOf (f .width) column)
+        ≡ sixteenths (s .mode) ch two (placeOf (f .width) column)
         (chromaSample s f ch near (column / 2)) (chromaSample s f ch near (column / 2 + 1))
         (chromaSample s f ch (secondOf rows near far) (column / 2)) (chromaSample s f ch (secondOf rows near far) (column / 2 + 1))
-    go one = one-as-two ch (placeOf (f .width) column) _ _ _ _
+    go one = one-as-two (s .mode) ch (placeOf (f .width) column) _ _ _ _
     go two = refl
 
 -- ---- the parts of a luma row
@@ -138,7 +141,7 @@ module _ {s : Settings} {f : Frame} {k : Kernel} (ready : Ready s f k) (row : �
 
     -- the row that the row functions make of the parts is the row of the definition
     pub row-of-parts : ((i : ℕ) → getD (f .u) i 0 ≤ mostOf (s .depth)) → ((i : ℕ) → getD (f .v) i 0 ≤ mostOf (s .depth))
-        → rowOf (λ r. orderedValue k (s .order) (f .width) y un uf vn vf) 0 xs ≡ rowOf (elementOf s f) row xs
+        → rowOf (λ r. orderedValue k (s .order) (s .mode) (f .width) y un uf vn vf) 0 xs ≡ rowOf (elementOf s f) row xs
     unfolding orderedValue
     row-of-parts hu hv =
         rw (ready .kernel)
@@ -149,7 +152,7 @@ module _ {s : Settings} {f : Frame} {k : Kernel} (ready : Ready s f k) (row : �
         small Cr r i = le-trans (unpacked-le (s .packing) (s .depth) _) (hv (f .v-stride * r + i))
 
         blended : (ch : Chroma) (column : ℕ) → chroma16 s f ch row column
-            ≡ sixteenths ch two (placeOf (f .width) column) (chromaSample s f ch (p .near) (column / 2)) (chromaSample s f ch (p .near) (column / 2 + 1))
+            ≡ sixteenths (s .mode) ch two (placeOf (f .width) column) (chromaSample s f ch (p .near) (column / 2)) (chromaSample s f ch (p .near) (column / 2 + 1))
             (chromaSample s f ch (p .other) (column / 2)) (chromaSample s f ch (p .other) (column / 2 + 1))
         blended ch column = rw is (blended-as-two s f ch row column)
 
@@ -160,7 +163,7 @@ module _ {s : Settings} {f : Frame} {k : Kernel} (ready : Ready s f k) (row : �
         fars ch = pick ch uf vf
 
         lasts : Chroma → ℕ
-        lasts ch = lastOf (f .width) ch (nears ch) (fars ch)
+        lasts ch = lastOf (s .mode) (f .width) ch (nears ch) (fars ch)
 
         -- sample i of a part of a plane
         sample-at : {part : List ℕ} (stride r n : ℕ) (plane : List ℕ) → part ≡ samplesOf (s .packing) (s .depth) (partOf stride r n plane)
@@ -179,7 +182,7 @@ module _ {s : Settings} {f : Frame} {k : Kernel} (ready : Ready s f k) (row : �
         far-at Cb i h = sample-at (f .u-stride) (p .other) (p .columns) (f .u) (parts .u-other) i (rw columns-are h)
         far-at Cr i h = sample-at (f .v-stride) (p .other) (p .columns) (f .v) (parts .v-other) i (rw columns-are h)
 
-        last-at : (ch : Chroma) → lasts ch ≡ rounded (tailOf ch (chromaSample s f ch (p .near) (chromaWidth (f .width) - 1)) (chromaSample s f ch (p .other) (chromaWidth (f .width) - 1)))
+        last-at : (ch : Chroma) → lasts ch ≡ rounded (tailOf (s .mode) ch (chromaSample s f ch (p .near) (chromaWidth (f .width) - 1)) (chromaSample s f ch (p .other) (chromaWidth (f .width) - 1)))
         last-at ch =
             let w = ready .width-least in
             rw (near-at ch (chromaWidth (f .width) - 1) (omega arith), far-at ch (chromaWidth (f .width) - 1) (omega arith))
@@ -191,7 +194,7 @@ module _ {s : Settings} {f : Frame} {k : Kernel} (ready : Ready s f k) where
   unfolding kernelOf
   offset-is = rw (ready .kernel) (of-arranged (redFirst (s .order)))
     where
-      of-arranged : (b : Bool) → arranged (s .depth) (s .range) b (coefficientsOf (s .depth) (s .range) (s .matrix)) .offset ≡ offsetOf (s .depth)
+      of-arranged : (b : Bool) → arranged (s .depth) (s .range) b (coefficientsOf s) .offset ≡ offsetOf (s .depth)
       of-arranged true = refl
       of-arranged false = refl
 

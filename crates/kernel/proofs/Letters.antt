@@ -81,10 +81,10 @@ module _ (d : ℕ) (r : YuvRange) (t : CbCrInverseTransform) (known : T (among d
 
 -- ---- the letters of a pixel
 
-module _ (s : Settings) (f : Frame) (known : T (among (s .depth) depths)) (u : T (usable (s .depth) (s .range) (s .matrix))) (row column : ℕ)
+module _ (s : Settings) (f : Frame) (known : T (among (s .depth) depths)) (u : T (usable s)) (row column : ℕ)
     (hb : rounded (chroma16 s f Cb row column) ≤ mostOf (s .depth)) (hr : rounded (chroma16 s f Cr row column) ≤ mostOf (s .depth)) where
   abbrev t : CbCrInverseTransform
-  t = coefficientsOf (s .depth) (s .range) (s .matrix)
+  t = coefficientsOf s
 
   abbrev kernelFor : Bool → Kernel
   kernelFor first = arranged (s .depth) (s .range) first t
@@ -96,15 +96,15 @@ module _ (s : Settings) (f : Frame) (known : T (among (s .depth) depths)) (u : T
 
   red : letterFor true 0 ≡ componentAt s f R row column
   unfolding letterFor letterOf made componentAt quotientAt quotientOf
-  red = red-is (s .depth) (s .range) t known (narrow _ _ _ known u) (lumaAt s f row column) _ _ hb hr
+  red = red-is (s .depth) (s .range) t known (narrow s known u) (lumaAt s f row column) _ _ hb hr
 
   green : letterFor true 1 ≡ componentAt s f G row column
   unfolding letterFor letterOf made componentAt quotientAt quotientOf
-  green = green-is (s .depth) (s .range) t known (narrow _ _ _ known u) (lumaAt s f row column) _ _ hb hr
+  green = green-is (s .depth) (s .range) t known (narrow s known u) (lumaAt s f row column) _ _ hb hr
 
   blue : letterFor true 2 ≡ componentAt s f B row column
   unfolding letterFor letterOf made componentAt quotientAt quotientOf
-  blue = blue-is (s .depth) (s .range) t known (narrow _ _ _ known u) (lumaAt s f row column) _ _ hb hr
+  blue = blue-is (s .depth) (s .range) t known (narrow s known u) (lumaAt s f row column) _ _ hb hr
 
   blue-first : letterFor false 0 ≡ letterFor true 2
   unfolding letterFor letterOf
@@ -116,7 +116,7 @@ module _ (s : Settings) (f : Frame) (known : T (among (s .depth) depths)) (u : T
 
   green-between : letterFor false 1 ≡ letterFor true 1
   unfolding letterFor letterOf
-  green-between = green-turned (s .depth) (s .range) t known (narrow _ _ _ known u) (lumaAt s f row column) _ _ hb hr
+  green-between = green-turned (s .depth) (s .range) t known (narrow s known u) (lumaAt s f row column) _ _ hb hr
 
   alpha-is : (first : Bool) → letterFor first 3 ≡ valueOf s f row column alpha
   unfolding letterFor letterOf valueOf

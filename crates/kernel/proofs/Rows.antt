@@ -10,30 +10,26 @@ use native.Mathlib.Omega.{arith}
 use borrow.Author.Tests.{ltb-true, ltb-false}
 use lib.Dec.{T, eqb, ltb}
 use lib.ListN.{length}
+use Rattle.yuv_support.specs.declared.YuvMode.{YuvMode}
 use Rattle.yuv_support.specs.declared.Settings.{Settings}
 use Rattle.yuv_support.specs.Settings.{among, depths}
 use Rattle.yuv_support.specs.Coefficients.{usable}
-use Rattle.yuv_support.specs.Blend.{Frame, Chroma, Cb, Cr, two, left, right, tail, sixteenths, pairPlace, placeOf, chromaWidth, lumaAt, chromaSample, chroma16, rounded}
+use Rattle.yuv_support.specs.Blend.{Frame, Chroma, Cb, Cr, two, left, right, tail, sixteenths, pairPlace, placeOf, chromaWidth, lumaAt, chromaSample, chroma16, tailOf, rounded}
 use Rattle.yuv_support.specs.Picture.{channelsOf, elementOf, rowOf}
 use Rattle.yuv_support.proofs.Blend.{blend-le}
 use Rattle.yuv_support.proofs.Overlay.{overlay-length, overlay-at, is-overlay}
 use Rattle.yuv_support.proofs.Picture.{three-or-four-channels}
 use Rattle.numerics.specs.Row.{rowValue, at, pairChroma, rowChroma, wholeValue}
-use Rattle.kernel.specs.Kernels.{redFirst, mostOf, firstChroma, thirdChroma, kernelOf, tailOf}
+use Rattle.kernel.specs.Kernels.{redFirst, mostOf, firstChroma, thirdChroma, kernelOf}
 use Rattle.kernel.proofs.Letters.{letter-is}
 
-tail-is : (ch : Chroma) (a b c e : ℕ) → sixteenths ch two tail a b c e ≡ tailOf ch a c
-unfolding sixteenths
-tail-is Cb a b c e = refl
-tail-is Cr a b c e = omega arith
-
 -- N and F are the samples of the near and the far row at a column
-module _ (ch : Chroma) (width : ℕ) (near far : List ℕ) (N F : ℕ → ℕ) (last : ℕ)
+module _ (mode : YuvMode) (ch : Chroma) (width : ℕ) (near far : List ℕ) (N F : ℕ → ℕ) (last : ℕ)
     (hn : (i : ℕ) → i < chromaWidth width → at near i ≡ N i) (hf : (i : ℕ) → i < chromaWidth width → at far i ≡ F i)
-    (ht : last ≡ rounded (tailOf ch (N (chromaWidth width - 1)) (F (chromaWidth width - 1)))) where
+    (ht : last ≡ rounded (tailOf mode ch (N (chromaWidth width - 1)) (F (chromaWidth width - 1)))) where
   pair-is : (column : ℕ) → column / 2 + 1 < chromaWidth width
       → pairChroma near far column
-      ≡ rounded (sixteenths ch two (pairPlace column) (N (column / 2)) (N (column / 2 + 1)) (F (column / 2)) (F (column / 2 + 1)))
+      ≡ rounded (sixteenths mode ch two (pairPlace column) (N (column / 2)) (N (column / 2 + 1)) (F (column / 2)) (F (column / 2 + 1)))
   unfolding sixteenths
   pair-is column h =
       rw (hn (column / 2) (omega arith), hn (column / 2 + 1) h, hf (column / 2) (omega arith), hf (column / 2 + 1) h) (by-side (eqb (column % 2) 0))
@@ -41,45 +37,45 @@ module _ (ch : Chroma) (width : ℕ) (near far : List ℕ) (N F : ℕ → ℕ) (
       by-side : (b : Bool)
           → cond b (rounded (9 * N (column / 2) + 3 * N (column / 2 + 1) + 3 * F (column / 2) + F (column / 2 + 1)))
           (rounded (3 * N (column / 2) + 9 * N (column / 2 + 1) + F (column / 2) + 3 * F (column / 2 + 1)))
-          ≡ rounded (sixteenths ch two (cond b left right) (N (column / 2)) (N (column / 2 + 1)) (F (column / 2)) (F (column / 2 + 1)))
+          ≡ rounded (sixteenths mode ch two (cond b left right) (N (column / 2)) (N (column / 2 + 1)) (F (column / 2)) (F (column / 2 + 1)))
       by-side true = refl
       by-side false = refl
 
   pub blend-is : (column : ℕ) → column < width
       → rowChroma width near far last column
-      ≡ rounded (sixteenths ch two (placeOf width column) (N (column / 2)) (N (column / 2 + 1)) (F (column / 2)) (F (column / 2 + 1)))
-  unfolding rowChroma placeOf
+      ≡ rounded (sixteenths mode ch two (placeOf width column) (N (column / 2)) (N (column / 2 + 1)) (F (column / 2)) (F (column / 2 + 1)))
+  unfolding rowChroma placeOf sixteenths
   blend-is column h = by-place (ltb (column / 2 + 1) (chromaWidth width)) refl
     where
       by-place : (b : Bool) → ltb (column / 2 + 1) (chromaWidth width) ≡ b
           → cond b (pairChroma near far column) last
-          ≡ rounded (sixteenths ch two (cond b (pairPlace column) tail) (N (column / 2)) (N (column / 2 + 1)) (F (column / 2)) (F (column / 2 + 1)))
+          ≡ rounded (sixteenths mode ch two (cond b (pairPlace column) tail) (N (column / 2)) (N (column / 2 + 1)) (F (column / 2)) (F (column / 2 + 1)))
       by-place true e = pair-is column (ltb-true _ _ e)
       by-place false e =
           let b : chromaWidth width ≤ column / 2 + 1 = ltb-false _ _ e in
           let l : chromaWidth width - 1 ≡ column / 2 = omega arith in
-          ht ∙ rw l (ap rounded (sym (tail-is ch (N (column / 2)) (N (column / 2 + 1)) (F (column / 2)) (F (column / 2 + 1)))))
+          ht ∙ rw l
 
 -- ---- the whole row
 
-module _ (s : Settings) (f : Frame) (known : T (among (s .depth) depths)) (u : T (usable (s .depth) (s .range) (s .matrix)))
+module _ (s : Settings) (f : Frame) (known : T (among (s .depth) depths)) (u : T (usable s))
     (small : (ch : Chroma) (r i : ℕ) → chromaSample s f ch r i ≤ mostOf (s .depth)) (row near far : ℕ)
     (blended : (ch : Chroma) (column : ℕ) → chroma16 s f ch row column
-    ≡ sixteenths ch two (placeOf (f .width) column) (chromaSample s f ch near (column / 2)) (chromaSample s f ch near (column / 2 + 1))
+    ≡ sixteenths (s .mode) ch two (placeOf (f .width) column) (chromaSample s f ch near (column / 2)) (chromaSample s f ch near (column / 2 + 1))
     (chromaSample s f ch far (column / 2)) (chromaSample s f ch far (column / 2 + 1)))
     (y : List ℕ) (nears fars : Chroma → List ℕ) (lasts : Chroma → ℕ)
     (hy : (i : ℕ) → i < f .width → at y i ≡ lumaAt s f row i)
     (hn : (ch : Chroma) (i : ℕ) → i < chromaWidth (f .width) → at (nears ch) i ≡ chromaSample s f ch near i)
     (hf : (ch : Chroma) (i : ℕ) → i < chromaWidth (f .width) → at (fars ch) i ≡ chromaSample s f ch far i)
-    (ht : (ch : Chroma) → lasts ch ≡ rounded (tailOf ch (chromaSample s f ch near (chromaWidth (f .width) - 1)) (chromaSample s f ch far (chromaWidth (f .width) - 1)))) where
+    (ht : (ch : Chroma) → lasts ch ≡ rounded (tailOf (s .mode) ch (chromaSample s f ch near (chromaWidth (f .width) - 1)) (chromaSample s f ch far (chromaWidth (f .width) - 1)))) where
   chroma-le : (ch : Chroma) (column : ℕ) → rounded (chroma16 s f ch row column) ≤ mostOf (s .depth)
   chroma-le ch column =
       rw (blended ch column)
-      (blend-le ch two (placeOf (f .width) column) _ _ _ _ (mostOf (s .depth)) (small ch near (column / 2)) (small ch near (column / 2 + 1)) (small ch far (column / 2)) (small ch far (column / 2 + 1)))
+      (blend-le (s .mode) ch two (placeOf (f .width) column) _ _ _ _ (mostOf (s .depth)) (small ch near (column / 2)) (small ch near (column / 2 + 1)) (small ch far (column / 2)) (small ch far (column / 2 + 1)))
 
   chroma-is : (ch : Chroma) (column : ℕ) → column < f .width → rowChroma (f .width) (nears ch) (fars ch) (lasts ch) column ≡ rounded (chroma16 s f ch row column)
   chroma-is ch column h =
-      blend-is ch (f .width) (nears ch) (fars ch) (chromaSample s f ch near) (chromaSample s f ch far) (lasts ch) (hn ch) (hf ch) (ht ch) column h
+      blend-is (s .mode) ch (f .width) (nears ch) (fars ch) (chromaSample s f ch near) (chromaSample s f ch far) (lasts ch) (hn ch) (hf ch) (ht ch) column h
       ∙ ap rounded (sym (blended ch column))
 
   abbrev p : Chroma

@@ -38,25 +38,25 @@ module _ (d : ℕ) (r : YuvRange) (t : CbCrInverseTransform) (known : T (among d
   arranged-half true = refl
   arranged-half false = refl
 
-module _ (s : Settings) (u : T (usable (s .depth) (s .range) (s .matrix))) where
+module _ (s : Settings) (u : T (usable s)) where
   abbrev transform : CbCrInverseTransform
-  transform = coefficientsOf (s .depth) (s .range) (s .matrix)
+  transform = coefficientsOf s
 
   roomy : T (among (s .depth) depths) → Roomy (mostOf (s .depth)) (kernelOf s)
   unfolding kernelOf
-  roomy k = arranged-roomy (s .depth) (s .range) transform k (narrow (s .depth) (s .range) (s .matrix) k u) (redFirst (s .order))
+  roomy k = arranged-roomy (s .depth) (s .range) transform k (narrow s k u) (redFirst (s .order))
 
   offset-is : T (among (s .depth) depths) → kernelOf s .offset ≡ offsetOf (s .depth)
   unfolding kernelOf
-  offset-is k = arranged-offset (s .depth) (s .range) transform k (narrow (s .depth) (s .range) (s .matrix) k u) (redFirst (s .order))
+  offset-is k = arranged-offset (s .depth) (s .range) transform k (narrow s k u) (redFirst (s .order))
 
   max-is : T (among (s .depth) depths) → kernelOf s .max ≡ maxOf (s .depth)
   unfolding kernelOf
-  max-is k = arranged-max (s .depth) (s .range) transform k (narrow (s .depth) (s .range) (s .matrix) k u) (redFirst (s .order))
+  max-is k = arranged-max (s .depth) (s .range) transform k (narrow s k u) (redFirst (s .order))
 
   half-is : T (among (s .depth) depths) → kernelOf s .half ≡ 8
   unfolding kernelOf
-  half-is k = arranged-half (s .depth) (s .range) transform k (narrow (s .depth) (s .range) (s .matrix) k u) (redFirst (s .order))
+  half-is k = arranged-half (s .depth) (s .range) transform k (narrow s k u) (redFirst (s .order))
 
   pub kernel-bytes : T (among (s .depth) depths8) → Bytes (kernelOf s)
   unfolding offsetOf mostOf maxOf

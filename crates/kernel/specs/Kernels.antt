@@ -49,7 +49,7 @@ arranged d r true t = lettered d r (t .y) (t .cr) (t .g1) (t .g2) (t .cb)
 arranged d r false t = lettered d r (t .y) (t .cb) (t .g2) (t .g1) (t .cr)
 
 unfoldable pub kernelOf : Settings → Kernel
-kernelOf s = arranged (s .depth) (s .range) (redFirst (s .order)) (coefficientsOf (s .depth) (s .range) (s .matrix))
+kernelOf s = arranged (s .depth) (s .range) (redFirst (s .order)) (coefficientsOf s)
 
 -- the chroma that the first and the third letter take
 abbrev pub firstChroma : Bool → Chroma
@@ -59,8 +59,3 @@ firstChroma false = Cb
 abbrev pub thirdChroma : Bool → Chroma
 thirdChroma true = Cb
 thirdChroma false = Cr
-
--- the tail's weights, in sixteenths: Cb takes more of the near row, and Cr more of the far one
-abbrev pub tailOf : Chroma → ℕ → ℕ → ℕ
-tailOf Cb near far = 12 * near + 4 * far
-tailOf Cr near far = 12 * far + 4 * near

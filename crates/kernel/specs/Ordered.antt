@@ -6,15 +6,16 @@ use Prim.Native.Nat.{ℕ, _-_, _*_, _≤_}
 use lib.Dec.{T}
 use lib.ListN.{length}
 use Rattle.yuv_support.specs.declared.YuvSourceChannels.{YuvSourceChannels}
+use Rattle.yuv_support.specs.declared.YuvMode.{YuvMode}
 use Rattle.yuv_support.specs.declared.Settings.{Settings}
 use Rattle.yuv_support.specs.Settings.{among, depths}
 use Rattle.yuv_support.specs.Coefficients.{usable}
-use Rattle.yuv_support.specs.Blend.{Frame, Chroma, Cb, Cr, chromaWidth, chromaHeight, rounded}
+use Rattle.yuv_support.specs.Blend.{Frame, Chroma, Cb, Cr, chromaWidth, chromaHeight, tailOf, rounded}
 use Rattle.yuv_support.specs.Picture.{channelsOf}
 use Rattle.yuv_support.specs.Questions.{needed}
 use Rattle.numerics.specs.declared.Kernel.{Kernel}
 use Rattle.numerics.specs.Row.{at, wholeValue}
-use Rattle.kernel.specs.Kernels.{redFirst, firstChroma, thirdChroma, tailOf, kernelOf}
+use Rattle.kernel.specs.Kernels.{redFirst, firstChroma, thirdChroma, kernelOf}
 
 -- the row of U for Cb, of V for Cr
 abbrev pub pick : Chroma → List ℕ → List ℕ → List ℕ
@@ -22,17 +23,17 @@ pick Cb u v = u
 pick Cr u v = v
 
 -- chroma of the tail, from the last samples of the near and the far row
-abbrev pub lastOf : ℕ → Chroma → List ℕ → List ℕ → ℕ
-lastOf width ch near far = rounded (tailOf ch (at near (chromaWidth width - 1)) (at far (chromaWidth width - 1)))
+abbrev pub lastOf : YuvMode → ℕ → Chroma → List ℕ → List ℕ → ℕ
+lastOf mode width ch near far = rounded (tailOf mode ch (at near (chromaWidth width - 1)) (at far (chromaWidth width - 1)))
 
 -- element x of the row
-abbrev pub orderedBy : Kernel → ℕ → ℕ → Chroma → Chroma → List ℕ → List ℕ → List ℕ → List ℕ → List ℕ → ℕ → ℕ
-orderedBy k n width p q y un uf vn vf =
+abbrev pub orderedBy : Kernel → ℕ → YuvMode → ℕ → Chroma → Chroma → List ℕ → List ℕ → List ℕ → List ℕ → List ℕ → ℕ → ℕ
+orderedBy k n mode width p q y un uf vn vf =
     wholeValue k n width y (pick p un vn) (pick p uf vf) (pick q un vn) (pick q uf vf)
-    (lastOf width p (pick p un vn) (pick p uf vf)) (lastOf width q (pick q un vn) (pick q uf vf))
+    (lastOf mode width p (pick p un vn) (pick p uf vf)) (lastOf mode width q (pick q un vn) (pick q uf vf))
 
-unfoldable pub orderedValue : Kernel → YuvSourceChannels → ℕ → List ℕ → List ℕ → List ℕ → List ℕ → List ℕ → ℕ → ℕ
-orderedValue k o width = orderedBy k (channelsOf o) width (firstChroma (redFirst o)) (thirdChroma (redFirst o))
+unfoldable pub orderedValue : Kernel → YuvSourceChannels → YuvMode → ℕ → List ℕ → List ℕ → List ℕ → List ℕ → List ℕ → ℕ → ℕ
+orderedValue k o mode width = orderedBy k (channelsOf o) mode width (firstChroma (redFirst o)) (thirdChroma (redFirst o))
 
 -- the samples and the places of a row are there
 pub record OrderedFits (o : YuvSourceChannels) (row y un uf vn vf : List ℕ) (width : ℕ) : Type 0 where
@@ -48,7 +49,7 @@ pub record OrderedFits (o : YuvSourceChannels) (row y un uf vn vf : List ℕ) (w
 -- settings that no question refuses, their kernel, and planes that hold the frame's samples
 pub record Ready (s : Settings) (f : Frame) (k : Kernel) : Type 0 where
   pub known : T (among (s .depth) depths)
-  pub weights : T (usable (s .depth) (s .range) (s .matrix))
+  pub weights : T (usable s)
   pub kernel : k ≡ kernelOf s
   pub width-least : 1 ≤ f .width
   pub width-most : f .width ≤ 16384

@@ -80,12 +80,11 @@ pub fn kernel_of(depth: u32, range: YuvRange, red_first: bool, t: CbCrInverseTra
 
 // The kernel of settings that no question refuses.
 pub fn settings_kernel(s: Settings) -> Kernel
-    requires { ⌜ T (among (s .depth) depths) × T (usable (s .depth) (s .range) (s .matrix)) ⌝ }
+    requires { ⌜ T (among (s .depth) depths) × T (usable s) ⌝ }
     ensures { λ r. ⌜ r ≡ kernelOf s ⌝ }
 {
     let order = s.order;
     let range = s.range;
-    let matrix = s.matrix;
-    let t = inverse_transform::search_inverse_transform(s.depth, range, matrix);
+    let t = inverse_transform::search_inverse_transform(s);
     kernel_of(s.depth, range, is_red_first(order), t)
 }

@@ -1,9 +1,9 @@
--- Document 01's marked cases hold: each is computed from the definitions on closed numbers and floats.
+-- The marked cases hold: each is computed from the definitions on closed numbers and floats.
 -- Assumes nothing.
 use mathlib.Core.Path.{refl}
 use lib.Ieee.{ofInt, mul, sub, div, le}
 use Rattle.yuv_support.specs.Settings.{maxOf, biasY, biasC, rangeY, rangeC, weightR, weightB, weightG, weightsOf}
-use Rattle.yuv_support.specs.Coefficients.{exactY, exactOuter, exactInner, storedOf, isStored, ratio, greenWeight, outer, inner, roundAway, integer, computedOf, coefficientsOf, usable}
+use Rattle.yuv_support.specs.Coefficients.{exactY, exactOuter, exactInner, storedOf, isStored, ratio, greenWeight, outer, inner, roundAway, integer, computedOf, coefficientsOf, customUsable, usableWith, usable}
 use Rattle.yuv_support.specs.Blend.{sixteenths, chromaHeight}
 use Rattle.yuv_support.specs.Component.{step, sumOf, quotientOf, componentOf}
 use Rattle.yuv_support.specs.Picture.{lettersOf, channelsOf}
@@ -14,7 +14,7 @@ use Rattle.marked_cases.proofs.Sheet.{marked-sheet}
 
 pub marked : Marked
 unfolding maxOf biasY biasC rangeY rangeC weightR weightB weightG weightsOf
-    exactY exactOuter exactInner storedOf isStored ratio greenWeight outer inner roundAway integer computedOf coefficientsOf usable
+    exactY exactOuter exactInner storedOf isStored ratio greenWeight outer inner roundAway integer computedOf coefficientsOf customUsable usableWith usable
     sixteenths chromaHeight step sumOf quotientOf componentOf lettersOf channelsOf verdict questionsOf settingsQuestions settingsUsedOf
     ofInt mul sub div le
 marked = record {
@@ -35,4 +35,7 @@ marked = record {
     refl,
   );
   largest-sides = (refl, refl, refl);
+  matched-tail = λ b e. (refl, refl);
+  matched-smpte240 = (refl, refl);
+  mode-known = (refl, refl);
 }

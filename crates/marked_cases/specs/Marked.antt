@@ -1,4 +1,4 @@
--- Document 01, "Marked cases": one field a case, in document 01's order, by the definitions that the entries' promises cite.
+-- Document 01, "Marked cases": one field a case, in document 01's order, then document 02's, by the definitions that the entries' promises cite.
 -- Definitions only.
 use Prim.Native.Nat.{ℕ, _*_}
 use mathlib.Core.Path.{_≡_}
@@ -12,6 +12,8 @@ use Rattle.yuv_support.specs.declared.YuvStandardMatrix.the-variants.{Bt601, Bt
 use Rattle.yuv_support.specs.declared.YuvChromaSubsampling.the-variants.{Yuv420}
 use Rattle.yuv_support.specs.declared.YuvSourceChannels.the-variants.{Rgb}
 use Rattle.yuv_support.specs.declared.YuvBytesPacking.the-variants.{LeastSignificantBytes}
+use Rattle.yuv_support.specs.declared.YuvMode.{YuvMode}
+use Rattle.yuv_support.specs.declared.YuvMode.the-variants.{AsSource, Matched}
 use Rattle.yuv_support.specs.declared.CbCrInverseTransform.{CbCrInverseTransform}
 use Rattle.yuv_support.specs.declared.Codes.{Codes}
 use Rattle.yuv_support.specs.declared.Settings.{Settings}
@@ -25,9 +27,21 @@ use Rattle.sheet_text.specs.Sheet.{sheetOf}
 use Rattle.settings_used.specs.Used.{refusal, settingsUsedOf}
 use Rattle.marked_cases.specs.Sheet.{markedInput, markedOutput}
 
--- the settings of a depth, a range and a matrix; sampling, order and packing have no part in a component of samples that are given
+-- the settings of a mode, a depth, a range and a matrix; sampling, order and packing have no part in a component of samples that are given
+abbrev pub settingIn : YuvMode → ℕ → YuvRange → YuvStandardMatrix → Settings
+settingIn mode d r m = record {
+  depth = d;
+  sampling = Yuv420;
+  order = Rgb;
+  range = r;
+  matrix = m;
+  packing = LeastSignificantBytes;
+  mode = mode;
+}
+
+-- as in the source
 abbrev pub setting : ℕ → YuvRange → YuvStandardMatrix → Settings
-setting d r m = record { depth = d; sampling = Yuv420; order = Rgb; range = r; matrix = m; packing = LeastSignificantBytes }
+setting d r m = settingIn AsSource d r m
 
 -- R, G and B from Y, U and V
 abbrev pub pixel : Settings → ℕ → ℕ → ℕ → List ℕ
@@ -57,18 +71,22 @@ AtEachDepth P = P 8 × P 10 × P 12
 
 -- ---- a conversion
 
--- 4:2:0 to RGB, samples in the low bits, by depth, range and matrix, both weights being k
-abbrev pub codes : ℕ → ℕ → ℕ → Float → Codes
-codes depth range matrix k = record {
+-- 4:2:0 to RGB, samples in the low bits, by mode, depth, range and matrix, both weights being k
+abbrev pub codesIn : ℕ → ℕ → ℕ → ℕ → Float → Codes
+codesIn mode depth range matrix k = record {
   depth = depth;
   sampling = 0;
   order = 0;
   range = range;
   matrix = matrix;
   packing = 0;
+  mode = mode;
   kr = k;
   kb = k;
 }
+
+abbrev pub codes : ℕ → ℕ → ℕ → Float → Codes
+codes depth range matrix k = codesIn 0 depth range matrix k
 
 -- Custom with both weights k gets number 13 at depth d, in either range
 abbrev pub Number13 : Float → ℕ → Type 0
@@ -107,16 +125,16 @@ pub record Marked : Type 0 where
       × (pixel (setting 8 Full Bt601) 50 128 228 ≡ 190 ∷ 0 ∷ 50 ∷ [])
   -- "a,b = 10,20: left 13, right 18"
   pub one-row : (ch : Chroma) (c e : ℕ) →
-      (rounded (sixteenths ch one left 10 20 c e) ≡ 13)
-      × (rounded (sixteenths ch one right 10 20 c e) ≡ 18)
+      (rounded (sixteenths AsSource ch one left 10 20 c e) ≡ 13)
+      × (rounded (sixteenths AsSource ch one right 10 20 c e) ≡ 18)
   -- "Far row 30,40 besides: 18, 23"
   pub two-rows : (ch : Chroma) →
-      (rounded (sixteenths ch two left 10 20 30 40) ≡ 18)
-      × (rounded (sixteenths ch two right 10 20 30 40) ≡ 23)
+      (rounded (sixteenths AsSource ch two left 10 20 30 40) ≡ 18)
+      × (rounded (sixteenths AsSource ch two right 10 20 30 40) ≡ 23)
   -- "Tail near 10, far 30: Cb 15, Cr 25"
   pub two-row-tail : (b e : ℕ) →
-      (rounded (sixteenths Cb two tail 10 b 30 e) ≡ 15)
-      × (rounded (sixteenths Cr two tail 10 b 30 e) ≡ 25)
+      (rounded (sixteenths AsSource Cb two tail 10 b 30 e) ≡ 15)
+      × (rounded (sixteenths AsSource Cr two tail 10 b 30 e) ≡ 25)
   -- "Limited BT.709, neutral, Y 0, 16, 235, 255: 0, 0, 255, 255"
   pub limited-bt709 :
       (neutral (setting 8 Limited Bt709) 0 ≡ grey 0)
@@ -130,10 +148,10 @@ pub record Marked : Type 0 where
       (componentOf (setting 8 Full Smpte240) R 100 128 178 ≡ 191)
       × (componentOf (setting 8 Full Smpte240) G 100 128 178 ≡ 89)
   -- "`Fcc` 8 full: 8192, 11469, 14582, 5832, 2719 (y, cr, cb, g1, g2)"
-  pub fcc : coefficientsOf 8 Full Fcc ≡ five 8192 11469 14582 5832 2719
+  pub fcc : coefficientsOf (setting 8 Full Fcc) ≡ five 8192 11469 14582 5832 2719
   -- "Custom 0,0 full: 8192, 16384, 16384, 0, 0; 0.4,0.4 and 0.5,0.5: number 13"
   pub custom-weights :
-      AtEachDepth (λ d. coefficientsOf d Full (Custom (tenths 0) (tenths 0)) ≡ five 8192 16384 16384 0 0)
+      AtEachDepth (λ d. coefficientsOf (setting d Full (Custom (tenths 0) (tenths 0))) ≡ five 8192 16384 16384 0 0)
       × AtEachDepth (Number13 (tenths 4))
       × AtEachDepth (Number13 (tenths 5))
       × (verdictOn (codes 8 1 6 (tenths 4)) 2 2 ≡ refused 13)
@@ -143,3 +161,15 @@ pub record Marked : Type 0 where
       (verdictOn (codes 8 1 0 (tenths 0)) 16384 16384 ≡ accepted)
       × (verdictOn (codes 8 1 0 (tenths 0)) 16385 16384 ≡ refused 4)
       × (verdictOn (codes 8 1 0 (tenths 0)) 16384 16385 ≡ refused 4)
+  -- document 02, slip 4: "the two-row tail of Cr has Cb's weights"
+  pub matched-tail : (b e : ℕ) →
+      (rounded (sixteenths Matched Cb two tail 10 b 30 e) ≡ 15)
+      × (rounded (sixteenths Matched Cr two tail 10 b 30 e) ≡ 15)
+  -- `Smpte240` at 8 bits: "Y 100, U 128, V 178, full range, then gives R 179, G 76"
+  pub matched-smpte240 :
+      (componentOf (settingIn Matched 8 Full Smpte240) R 100 128 178 ≡ 179)
+      × (componentOf (settingIn Matched 8 Full Smpte240) G 100 128 178 ≡ 76)
+  -- "It refuses another mode code at question 2"
+  pub mode-known :
+      (verdictOn (codesIn 1 8 1 3 (tenths 0)) 2 2 ≡ accepted)
+      × (verdictOn (codesIn 2 8 1 3 (tenths 0)) 2 2 ≡ refused 2)

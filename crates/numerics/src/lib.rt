@@ -4,8 +4,9 @@
 // fits 16 bits, and 262,144 for u16 samples, which may be anything up to 65,535.
 ghost use mathlib.Core.Path.{_≡_};
 ghost use Prim.Native.Nat.{_+_, _-_, _*_, _≤_, _<_, min};
-ghost use Rattle.yuv_support.specs.Blend.{rounded};
+ghost use Rattle.yuv_support.specs.Blend.{Cr, rounded, tailOf};
 ghost use Rattle.numerics.specs.Kernel.{shifted, outerOf, innerOf, firstOf, greenOf, thirdOf, Bytes, Words};
+use yuv_support::YuvMode;
 
 // The coefficients of a pixel's letters, with the biases, the rounding and the offset folded into one constant for each letter.
 // half is 8, half of sixteen sixteenths: a number of run time, so that the compiler keeps a blended u16 sample in 16 bits.
@@ -174,6 +175,16 @@ pub fn tail8(a: u8, c: u8) -> u8
     ((3 * (a as u16) + (c as u16) + 2) / 4) as u8
 }
 
+// Cr of the tail: as the source has it, more of the far row; matched, as Cb.
+pub fn cr_tail8(near: u8, far: u8, mode: YuvMode) -> u8
+    ensures { λ r. ⌜ r ≡ rounded (tailOf mode Cr near far) ⌝ }
+{
+    match mode {
+        YuvMode::AsSource => tail8(far, near),
+        YuvMode::Matched => tail8(near, far),
+    }
+}
+
 // The near and the far sample of a column, in quarters.
 pub fn column16(near: u16, far: u16) -> u32
     ensures { λ r. ⌜ r ≡ 3 * near + far ⌝ }
@@ -200,4 +211,13 @@ pub fn tail16(a: u16, c: u16) -> u16
     ensures { λ r. ⌜ r ≡ rounded (12 * a + 4 * c) ⌝ }
 {
     ((3 * (a as u32) + (c as u32) + 2) / 4) as u16
+}
+
+pub fn cr_tail16(near: u16, far: u16, mode: YuvMode) -> u16
+    ensures { λ r. ⌜ r ≡ rounded (tailOf mode Cr near far) ⌝ }
+{
+    match mode {
+        YuvMode::AsSource => tail16(far, near),
+        YuvMode::Matched => tail16(near, far),
+    }
 }

@@ -1,10 +1,11 @@
 // Replays stored answers of the Rust through the public entries, and prints how many were compared and how many differ.
-// The list is the file `stdin` beside src/: a line of column names, then a line of 33 numbers for each call. tests/oracle made it by
+// The list is the file `stdin` beside src/: a line of column names, then a line of 34 numbers for each call. tests/oracle made it by
 // running the Rust: cargo run --offline --release --bin vectors.
-// Columns: 0 to 5 the codes; 6, 7 the bits of kr and kb; 8, 9 the sides; 10 to 13 the strides of Y, U, V and the destination; 14 to 17
-// their lengths; 18 to 20 how they are filled. Then what the Rust answered: 21 to 23 number, expected, received; 24 a sum over every
-// destination element after the call, kept ones included; 25 to 32 the settings used. The Rust has one name for questions 9 to 12:
-// there the number is that of the first "no". Samples in the high bits (packing 1) were divided for the Rust, and stand undivided here.
+// Columns: 0 to 6 the codes; 7, 8 the bits of kr and kb; 9, 10 the sides; 11 to 14 the strides of Y, U, V and the destination; 15 to 18
+// their lengths; 19 to 21 how they are filled. Then the answer: 22 to 24 number, expected, received; 25 a sum over every destination
+// element after the call, kept ones included; 26 to 33 the settings used. The Rust has one name for questions 9 to 12: there the number
+// is that of the first "no". Samples in the high bits (packing 1) were divided for the Rust, and stand undivided here. In matched mode
+// (mode 1) the answer is that of the second reading of document 02 in tests/oracle, since the Rust has none.
 ghost use Prim.Native.Nat.{_≤_};
 use libc::STDIN_FILENO;
 use libc::STDOUT_FILENO;
@@ -37,10 +38,10 @@ fn number(list: &[u8], from: usize) -> Column {
 }
 
 // The columns of a line, and the place after it.
-fn read_row(list: &[u8], from: usize, row: &mut [u64; 33]) -> usize {
+fn read_row(list: &[u8], from: usize, row: &mut [u64; 34]) -> usize {
     let mut at = from;
     let mut column: usize = 0;
-    while column < 33 {
+    while column < 34 {
         let n = number(list, at);
         row[column] = n.value;
         at = n.next;
@@ -61,7 +62,7 @@ fn weight(bits: u64) -> f32 {
     0.0
 }
 
-fn codes_of(row: &[u64; 33]) -> Codes {
+fn codes_of(row: &[u64; 34]) -> Codes {
     Codes {
         depth: narrow(row[0]),
         sampling: narrow(row[1]),
@@ -69,18 +70,19 @@ fn codes_of(row: &[u64; 33]) -> Codes {
         range: narrow(row[3]),
         matrix: narrow(row[4]),
         packing: narrow(row[5]),
-        kr: weight(row[6]),
-        kb: weight(row[7]),
+        mode: narrow(row[6]),
+        kr: weight(row[7]),
+        kb: weight(row[8]),
     }
 }
 
-fn image_of(row: &[u64; 33]) -> YuvPlanarImage {
+fn image_of(row: &[u64; 34]) -> YuvPlanarImage {
     YuvPlanarImage {
-        width: narrow(row[8]),
-        height: narrow(row[9]),
-        y_stride: narrow(row[10]),
-        u_stride: narrow(row[11]),
-        v_stride: narrow(row[12]),
+        width: narrow(row[9]),
+        height: narrow(row[10]),
+        y_stride: narrow(row[11]),
+        u_stride: narrow(row[12]),
+        v_stride: narrow(row[13]),
     }
 }
 
@@ -161,18 +163,18 @@ fn sum16(buffer: &[u16]) -> u64 {
 }
 
 // Whether an answer and the sum of the destination are those of the Rust.
-fn is_answer(row: &[u64; 33], answer: Told, sum: u64) -> bool {
-    answer.number == row[21]
-        && answer.expected == row[22]
-        && answer.received == row[23]
-        && sum == row[24]
+fn is_answer(row: &[u64; 34], answer: Told, sum: u64) -> bool {
+    answer.number == row[22]
+        && answer.expected == row[23]
+        && answer.received == row[24]
+        && sum == row[25]
 }
 
 // Whether the conversion of a line answers as the Rust did. The buffers have the lengths that the line says.
-fn replay8(row: &[u64; 33], y: &mut [u8], u: &mut [u8], v: &mut [u8], rgb: &mut [u8]) -> bool {
-    let after_y = fill8(y, row[18], row[19], row[20]);
-    let after_u = fill8(u, after_y, row[19], row[20]);
-    let after_v = fill8(v, after_u, row[19], row[20]);
+fn replay8(row: &[u64; 34], y: &mut [u8], u: &mut [u8], v: &mut [u8], rgb: &mut [u8]) -> bool {
+    let after_y = fill8(y, row[19], row[20], row[21]);
+    let after_u = fill8(u, after_y, row[20], row[21]);
+    let after_v = fill8(v, after_u, row[20], row[21]);
     fill8(rgb, after_v, 255, 0);
     let answer = yuv_to_rgba_bilinear::yuv_to_rgbx_bilinear(
         codes_of(row),
@@ -181,15 +183,15 @@ fn replay8(row: &[u64; 33], y: &mut [u8], u: &mut [u8], v: &mut [u8], rgb: &mut 
         u,
         v,
         rgb,
-        narrow(row[13]),
+        narrow(row[14]),
     );
     is_answer(row, yuv_error::told_of(answer), sum8(rgb))
 }
 
-fn replay16(row: &[u64; 33], y: &mut [u16], u: &mut [u16], v: &mut [u16], rgb: &mut [u16]) -> bool {
-    let after_y = fill16(y, row[18], row[19], row[20]);
-    let after_u = fill16(u, after_y, row[19], row[20]);
-    let after_v = fill16(v, after_u, row[19], row[20]);
+fn replay16(row: &[u64; 34], y: &mut [u16], u: &mut [u16], v: &mut [u16], rgb: &mut [u16]) -> bool {
+    let after_y = fill16(y, row[19], row[20], row[21]);
+    let after_u = fill16(u, after_y, row[20], row[21]);
+    let after_v = fill16(v, after_u, row[20], row[21]);
     fill16(rgb, after_v, 65535, 0);
     let answer = yuv_p16_to_rgba16_bilinear::yuv16_to_rgbx_bilinear(
         codes_of(row),
@@ -198,21 +200,21 @@ fn replay16(row: &[u64; 33], y: &mut [u16], u: &mut [u16], v: &mut [u16], rgb: &
         u,
         v,
         rgb,
-        narrow(row[13]),
+        narrow(row[14]),
     );
     is_answer(row, yuv_error::told_of(answer), sum16(rgb))
 }
 
 // The same, with room for the four buffers.
-fn is_same8(row: &[u64; 33]) -> bool {
+fn is_same8(row: &[u64; 34]) -> bool {
     let mut y = [0u8; 1024];
     let mut u = [0u8; 1024];
     let mut v = [0u8; 1024];
     let mut rgb = [0u8; 1024];
-    let y_length = held(row[14]);
-    let u_length = held(row[15]);
-    let v_length = held(row[16]);
-    let rgb_length = held(row[17]);
+    let y_length = held(row[15]);
+    let u_length = held(row[16]);
+    let v_length = held(row[17]);
+    let rgb_length = held(row[18]);
     replay8(
         row,
         &mut y[..y_length],
@@ -222,15 +224,15 @@ fn is_same8(row: &[u64; 33]) -> bool {
     )
 }
 
-fn is_same16(row: &[u64; 33]) -> bool {
+fn is_same16(row: &[u64; 34]) -> bool {
     let mut y = [0u16; 1024];
     let mut u = [0u16; 1024];
     let mut v = [0u16; 1024];
     let mut rgb = [0u16; 1024];
-    let y_length = held(row[14]);
-    let u_length = held(row[15]);
-    let v_length = held(row[16]);
-    let rgb_length = held(row[17]);
+    let y_length = held(row[15]);
+    let u_length = held(row[16]);
+    let v_length = held(row[17]);
+    let rgb_length = held(row[18]);
     replay16(
         row,
         &mut y[..y_length],
@@ -241,21 +243,21 @@ fn is_same16(row: &[u64; 33]) -> bool {
 }
 
 // Whether the settings used are those of the Rust.
-fn is_settings(row: &[u64; 33]) -> bool {
+fn is_settings(row: &[u64; 34]) -> bool {
     let s = settings_used::settings_used(codes_of(row));
     s.number == 0
-        && s.max as u64 == row[25]
-        && s.bias_y as u64 == row[26]
-        && s.bias_uv as u64 == row[27]
-        && s.y as u64 == row[28]
-        && s.cr as u64 == row[29]
-        && s.cb as u64 == row[30]
-        && s.g1 as u64 == row[31]
-        && s.g2 as u64 == row[32]
+        && s.max as u64 == row[26]
+        && s.bias_y as u64 == row[27]
+        && s.bias_uv as u64 == row[28]
+        && s.y as u64 == row[29]
+        && s.cr as u64 == row[30]
+        && s.cb as u64 == row[31]
+        && s.g1 as u64 == row[32]
+        && s.g2 as u64 == row[33]
 }
 
 // 1 where a line's answer differs, else 0.
-fn different(row: &[u64; 33]) -> u64
+fn different(row: &[u64; 34]) -> u64
     ensures { λ r. ⌜ r ≤ 1 ⌝ }
 {
     if !is_settings(row) {
@@ -275,7 +277,7 @@ fn different(row: &[u64; 33]) -> u64
 
 // The names are read as a line that is not compared. A line takes at least a byte, so the list has no more lines than bytes.
 fn replay_all(list: &[u8]) {
-    let mut row = [0u64; 33];
+    let mut row = [0u64; 34];
     let mut at = read_row(list, 0, &mut row);
     let mut compared: u64 = 0;
     let mut differing: u64 = 0;

@@ -1,4 +1,5 @@
-// Prints the settings used for the 36 named settings, a line each: the codes, the verdict's number, M, the biases and the five coefficients.
+// Prints the settings used for the 36 named settings of mode 0, a line each: the codes, the verdict's number, M, the biases and the five
+// coefficients.
 use libc::STDOUT_FILENO;
 use yuv_support::Codes;
 
@@ -17,6 +18,7 @@ fn put_setting(depth: u32, range: u32, matrix: u32) {
         range,
         matrix,
         packing: 0,
+        mode: 0,
         kr: 0.0,
         kb: 0.0,
     });

@@ -38,6 +38,6 @@ converted-has known within codes image y u v stride rgb e = rw (all-hold-accepte
     holds zero = le-leb _ _ (accepted-call known within codes image y u v stride rgb e .sampling)
     holds (suc zero) =
         let a = accepted-call known within codes image y u v stride rgb e in
-        simp (le-leb _ _ (a .order), le-leb _ _ (a .range), le-leb _ _ (a .matrix), le-leb _ _ (a .packing), passed (among (codes .depth) depths) (within (codes .depth) (a .depth)))
+        simp (le-leb _ _ (a .order), le-leb _ _ (a .range), le-leb _ _ (a .matrix), le-leb _ _ (a .packing), le-leb _ _ (a .mode), passed (among (codes .depth) depths) (within (codes .depth) (a .depth)))
     holds (suc (suc zero)) = passed _ (accepted-call known within codes image y u v stride rgb e .weights)
     holds (suc (suc (suc k))) = refl

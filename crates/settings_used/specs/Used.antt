@@ -51,7 +51,7 @@ answer d r t = record {
 }
 
 abbrev pub numbersOf : Settings → SettingsUsed
-numbersOf s = answer (s .depth) (s .range) (coefficientsOf (s .depth) (s .range) (s .matrix))
+numbersOf s = answer (s .depth) (s .range) (coefficientsOf s)
 
 abbrev pub judged : Verdict → Settings → SettingsUsed
 judged v s = cond (eqb (v .number) 0) (numbersOf s) (refusal (asTold v))

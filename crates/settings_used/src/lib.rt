@@ -74,8 +74,8 @@ pub fn settings_used(codes: Codes) -> SettingsUsed
     if !yuv_error::is_accepted(answer) {
         return refused(yuv_error::told_of(answer));
     }
-    let range = yuv_support::range_of(codes.range);
-    let matrix = yuv_support::matrix_of(codes.matrix, codes.kr, codes.kb);
-    let t = inverse_transform::search_inverse_transform(codes.depth, range, matrix);
+    let s = yuv_support::decode(codes);
+    let range = s.range;
+    let t = inverse_transform::search_inverse_transform(s);
     used(codes.depth, range, t)
 }

@@ -11,12 +11,12 @@ use borrow.Author.Tests.{le-leb, eq-eqb, ne-eqb}
 use lib.Dec.{T}
 use lib.ListN.{length, take, getD}
 use lib.Seq.{length-take-le}
-use Rattle.yuv_support.specs.declared.YuvRange.{YuvRange}
 use Rattle.yuv_support.specs.declared.YuvSourceChannels.{YuvSourceChannels}
+use Rattle.yuv_support.specs.declared.CbCrInverseTransform.{CbCrInverseTransform}
 use Rattle.yuv_support.specs.declared.Codes.{Codes}
 use Rattle.yuv_support.specs.declared.YuvPlanarImage.{YuvPlanarImage}
-use Rattle.yuv_support.specs.Settings.{samplingOf, orderOf, rangeOf, matrixOf, lastPacking, among, depths, depths8, depths16}
-use Rattle.yuv_support.specs.Coefficients.{usable}
+use Rattle.yuv_support.specs.Settings.{samplingOf, orderOf, matrixOf, lastPacking, among, depths, depths8, depths16}
+use Rattle.yuv_support.specs.Coefficients.{coefficientsOf, usableWith, usable}
 use Rattle.yuv_support.specs.Blend.{frameOf, chromaWidth, chromaHeight}
 use Rattle.yuv_support.specs.Picture.{channelsOf, picture, band}
 use Rattle.yuv_support.specs.Questions.{accepted, verdict, questionsOf, decoded, needed}
@@ -33,15 +33,15 @@ use Rattle.sheet_table.proofs.Shown.{row-room}
 use Rattle.sheet_picture.specs.Samples.{Fit, Most, Samples, planesFrame}
 
 -- question 13 asks nothing of a matrix that has a name
-named-usable : (d : ℕ) (r : YuvRange) (m : ℕ) → m ≤ 5 → usable d r (matrixOf m noWeight noWeight) ≡ true
-unfolding usable
-named-usable d r zero h = refl
-named-usable d r (suc zero) h = refl
-named-usable d r (suc (suc zero)) h = refl
-named-usable d r (suc (suc (suc zero))) h = refl
-named-usable d r (suc (suc (suc (suc zero)))) h = refl
-named-usable d r (suc (suc (suc (suc (suc zero))))) h = refl
-named-usable d r (suc (suc (suc (suc (suc (suc m)))))) h = absurd (omega arith)
+named-usable : (m : ℕ) (t : CbCrInverseTransform) → m ≤ 5 → usableWith (matrixOf m noWeight noWeight) t ≡ true
+unfolding usableWith
+named-usable zero t h = refl
+named-usable (suc zero) t h = refl
+named-usable (suc (suc zero)) t h = refl
+named-usable (suc (suc (suc zero))) t h = refl
+named-usable (suc (suc (suc (suc zero)))) t h = refl
+named-usable (suc (suc (suc (suc (suc zero))))) t h = refl
+named-usable (suc (suc (suc (suc (suc (suc m)))))) t h = absurd (omega arith)
 
 -- rows that follow each other closely need as many elements as there are
 close-rows : (w h : ℕ) → 1 ≤ h → w * (h - 1) + w ≡ w * h
@@ -63,7 +63,7 @@ module _ {known : List ℕ} {v : Values} (fit : Fit known v) where
   module _ (y u w old : List ℕ) (ly : length y ≡ lumaCount v) (lu : length u ≡ chromaCount v) (lw : length w ≡ chromaCount v)
       (lo : length old ≡ 16384) where
     small-accepted : answerTo known (codesOf v) (imageOf v) y u w stride old ≡ accepted
-    unfolding answerTo questionsOf verdict
+    unfolding answerTo questionsOf verdict usable
     small-accepted =
         let wide = chromaWidth (v .width) in
         let rows = chromaHeight (samplingOf (v .sampling)) (v .height) in
@@ -88,7 +88,7 @@ module _ {known : List ℕ} {v : Values} (fit : Fit known v) where
           le-leb _ _ (le-refl wide),
           le-leb (needed wide wide rows) (length u) (omega arith),
           le-leb (needed wide wide rows) (length w) (omega arith),
-          named-usable (v .depth) (rangeOf (v .range)) (v .matrix) (fit .matrix),
+          named-usable (v .matrix) (coefficientsOf (decoded (codesOf v))) (fit .matrix),
         )
 
     small-shows : (new : List ℕ) → new ≡ destinationAfter known (codesOf v) (imageOf v) y u w stride old

@@ -12,7 +12,7 @@ use Rattle.yuv_support.specs.Settings.{samplingOf}
 use Rattle.yuv_support.specs.Blend.{chromaWidth, chromaHeight}
 use Rattle.sheet_values.specs.declared.Values.{Values}
 
--- the codes that the values are: samples in the low bits, and no weights, for no value is Custom's
+-- the codes that the values are: samples in the low bits, the mode of the source, and no weights, for no value is Custom's
 abbrev pub noWeight : Float
 noWeight = ofBits binary32 0
 
@@ -24,6 +24,7 @@ codesOf v = record {
   range = v .range;
   matrix = v .matrix;
   packing = 0;
+  mode = 0;
   kr = noWeight;
   kb = noWeight;
 }

@@ -43,6 +43,7 @@ pub fn codes_of(v: Values) -> Codes
         range: v.range,
         matrix: v.matrix,
         packing: 0,
+        mode: 0,
         kr: 0.0,
         kb: 0.0,
     }

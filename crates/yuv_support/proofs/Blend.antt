@@ -1,5 +1,5 @@
 -- Chroma at a pixel: document 01's formulas are the sixteenths rounded, and weights that sum to 16 keep a blend below 16 times a bound of
--- its samples. One line for each kind of blending; rows and columns give the kind.
+-- its samples, in either mode. One line for each kind of blending; rows and columns give the kind.
 -- Assumes nothing.
 use mathlib.Core.Path.{_≡_}
 use mathlib.Core.Bool.{Bool, true, false, cond}
@@ -8,79 +8,86 @@ use native.Mathlib.Omega.{arith}
 use lib.Dec.{T, eqb, ltb, ltb→lt}
 use Rattle.yuv_support.specs.declared.YuvChromaSubsampling.{YuvChromaSubsampling}
 use Rattle.yuv_support.specs.declared.YuvChromaSubsampling.the-variants.{Yuv420, Yuv422}
+use Rattle.yuv_support.specs.declared.YuvMode.{YuvMode}
+use Rattle.yuv_support.specs.declared.YuvMode.the-variants.{AsSource, Matched}
 use Rattle.yuv_support.specs.declared.Settings.{Settings}
 use Rattle.yuv_support.specs.Settings.{maxOf}
-use Rattle.yuv_support.specs.Blend.{Frame, Chroma, Cb, Cr, planeOf, strideOf, chromaWidth, chromaHeight, Rows, one, two, Place, left, right, tail, rowsOf, pairPlace, placeOf, nextRow, nearRow, farRow, sixteenths, chroma16, rounded}
+use Rattle.yuv_support.specs.Blend.{Frame, Chroma, Cb, Cr, planeOf, strideOf, chromaWidth, chromaHeight, Rows, one, two, Place, left, right, tail, rowsOf, pairPlace, placeOf, nextRow, nearRow, farRow, tailOf, sixteenths, chroma16, rounded}
 use Rattle.yuv_support.specs.Distance.{PlaneWithin, WithinDepth}
 use Rattle.yuv_support.proofs.Tests.{ltb-yes, ltb-no}
 
 -- ---- document 01's formulas
 
-pub one-row-left : (ch : Chroma) (a b c e : ℕ) → (3 * a + b + 2) / 4 ≡ rounded (sixteenths ch one left a b c e)
+pub one-row-left : (mode : YuvMode) (ch : Chroma) (a b c e : ℕ) → (3 * a + b + 2) / 4 ≡ rounded (sixteenths mode ch one left a b c e)
 unfolding sixteenths
-one-row-left ch a b c e = omega arith
+one-row-left mode ch a b c e = omega arith
 
-pub one-row-right : (ch : Chroma) (a b c e : ℕ) → (a + 3 * b + 2) / 4 ≡ rounded (sixteenths ch one right a b c e)
+pub one-row-right : (mode : YuvMode) (ch : Chroma) (a b c e : ℕ) → (a + 3 * b + 2) / 4 ≡ rounded (sixteenths mode ch one right a b c e)
 unfolding sixteenths
-one-row-right ch a b c e = omega arith
+one-row-right mode ch a b c e = omega arith
 
-pub one-row-tail : (ch : Chroma) (a b c e : ℕ) → a ≡ rounded (sixteenths ch one tail a b c e)
+pub one-row-tail : (mode : YuvMode) (ch : Chroma) (a b c e : ℕ) → a ≡ rounded (sixteenths mode ch one tail a b c e)
 unfolding sixteenths
-one-row-tail ch a b c e = omega arith
+one-row-tail mode ch a b c e = omega arith
 
-pub two-rows-left : (ch : Chroma) (a b c e : ℕ) → (9 * a + 3 * b + 3 * c + e + 8) / 16 ≡ rounded (sixteenths ch two left a b c e)
+pub two-rows-left : (mode : YuvMode) (ch : Chroma) (a b c e : ℕ) → (9 * a + 3 * b + 3 * c + e + 8) / 16 ≡ rounded (sixteenths mode ch two left a b c e)
 unfolding sixteenths
-two-rows-left ch a b c e = omega arith
+two-rows-left mode ch a b c e = omega arith
 
-pub two-rows-right : (ch : Chroma) (a b c e : ℕ) → (3 * a + 9 * b + c + 3 * e + 8) / 16 ≡ rounded (sixteenths ch two right a b c e)
+pub two-rows-right : (mode : YuvMode) (ch : Chroma) (a b c e : ℕ) → (3 * a + 9 * b + c + 3 * e + 8) / 16 ≡ rounded (sixteenths mode ch two right a b c e)
 unfolding sixteenths
-two-rows-right ch a b c e = omega arith
+two-rows-right mode ch a b c e = omega arith
 
-pub two-rows-tail-cb : (near b far e : ℕ) → (3 * near + far + 2) / 4 ≡ rounded (sixteenths Cb two tail near b far e)
+pub two-rows-tail-cb : (mode : YuvMode) (near b far e : ℕ) → (3 * near + far + 2) / 4 ≡ rounded (sixteenths mode Cb two tail near b far e)
 unfolding sixteenths
-two-rows-tail-cb near b far e = omega arith
+two-rows-tail-cb mode near b far e = omega arith
 
-pub two-rows-tail-cr : (near b far e : ℕ) → (near + 3 * far + 2) / 4 ≡ rounded (sixteenths Cr two tail near b far e)
+pub two-rows-tail-cr : (near b far e : ℕ) → (near + 3 * far + 2) / 4 ≡ rounded (sixteenths AsSource Cr two tail near b far e)
 unfolding sixteenths
 two-rows-tail-cr near b far e = omega arith
 
 -- ---- bounds of a blend
 
-pub sixteenths-le : (ch : Chroma) (rows : Rows) (place : Place) (a b c e bound : ℕ) → a ≤ bound → b ≤ bound → c ≤ bound → e ≤ bound
-    → sixteenths ch rows place a b c e ≤ 16 * bound
+-- the two-row tail takes one sample of each row
+tail-le : (mode : YuvMode) (ch : Chroma) (near far bound : ℕ) → near ≤ bound → far ≤ bound → tailOf mode ch near far ≤ 16 * bound
+tail-le mode Cb near far bound hn hf = omega arith
+tail-le AsSource Cr near far bound hn hf = omega arith
+tail-le Matched Cr near far bound hn hf = omega arith
+
+pub sixteenths-le : (mode : YuvMode) (ch : Chroma) (rows : Rows) (place : Place) (a b c e bound : ℕ) → a ≤ bound → b ≤ bound → c ≤ bound → e ≤ bound
+    → sixteenths mode ch rows place a b c e ≤ 16 * bound
 unfolding sixteenths
-sixteenths-le ch one left a b c e bound ha hb hc he = omega arith
-sixteenths-le ch one right a b c e bound ha hb hc he = omega arith
-sixteenths-le ch one tail a b c e bound ha hb hc he = omega arith
-sixteenths-le ch two left a b c e bound ha hb hc he = omega arith
-sixteenths-le ch two right a b c e bound ha hb hc he = omega arith
-sixteenths-le Cb two tail a b c e bound ha hb hc he = omega arith
-sixteenths-le Cr two tail a b c e bound ha hb hc he = omega arith
+sixteenths-le mode ch one left a b c e bound ha hb hc he = omega arith
+sixteenths-le mode ch one right a b c e bound ha hb hc he = omega arith
+sixteenths-le mode ch one tail a b c e bound ha hb hc he = omega arith
+sixteenths-le mode ch two left a b c e bound ha hb hc he = omega arith
+sixteenths-le mode ch two right a b c e bound ha hb hc he = omega arith
+sixteenths-le mode ch two tail a b c e bound ha hb hc he = tail-le mode ch a c bound ha hc
 
 -- the tail takes the last sample of a row only
-pub sixteenths-tail-le : (ch : Chroma) (rows : Rows) (a b c e bound : ℕ) → a ≤ bound → c ≤ bound → sixteenths ch rows tail a b c e ≤ 16 * bound
+pub sixteenths-tail-le : (mode : YuvMode) (ch : Chroma) (rows : Rows) (a b c e bound : ℕ) → a ≤ bound → c ≤ bound
+    → sixteenths mode ch rows tail a b c e ≤ 16 * bound
 unfolding sixteenths
-sixteenths-tail-le ch one a b c e bound ha hc = omega arith
-sixteenths-tail-le Cb two a b c e bound ha hc = omega arith
-sixteenths-tail-le Cr two a b c e bound ha hc = omega arith
+sixteenths-tail-le mode ch one a b c e bound ha hc = omega arith
+sixteenths-tail-le mode ch two a b c e bound ha hc = tail-le mode ch a c bound ha hc
 
 pub rounded-le : (n bound : ℕ) → n ≤ 16 * bound → rounded n ≤ bound
 rounded-le n bound h = omega arith
 
-pub blend-le : (ch : Chroma) (rows : Rows) (place : Place) (a b c e bound : ℕ) → a ≤ bound → b ≤ bound → c ≤ bound → e ≤ bound
-    → rounded (sixteenths ch rows place a b c e) ≤ bound
-blend-le ch rows place a b c e bound ha hb hc he = rounded-le (sixteenths ch rows place a b c e) bound (sixteenths-le ch rows place a b c e bound ha hb hc he)
+pub blend-le : (mode : YuvMode) (ch : Chroma) (rows : Rows) (place : Place) (a b c e bound : ℕ) → a ≤ bound → b ≤ bound → c ≤ bound → e ≤ bound
+    → rounded (sixteenths mode ch rows place a b c e) ≤ bound
+blend-le mode ch rows place a b c e bound ha hb hc he = rounded-le (sixteenths mode ch rows place a b c e) bound (sixteenths-le mode ch rows place a b c e bound ha hb hc he)
 
 -- at a column, where the samples k + 1 are needed only if there are such
-pub placed-le : (ch : Chroma) (rows : Rows) (width column a b c e bound : ℕ) → a ≤ bound → c ≤ bound
+pub placed-le : (mode : YuvMode) (ch : Chroma) (rows : Rows) (width column a b c e bound : ℕ) → a ≤ bound → c ≤ bound
     → (column / 2 + 1 < chromaWidth width → b ≤ bound) → (column / 2 + 1 < chromaWidth width → e ≤ bound)
-    → sixteenths ch rows (placeOf width column) a b c e ≤ 16 * bound
+    → sixteenths mode ch rows (placeOf width column) a b c e ≤ 16 * bound
 unfolding placeOf
-placed-le ch rows width column a b c e bound ha hc hb he = go (ltb (column / 2 + 1) (chromaWidth width)) (ltb→lt (column / 2 + 1) (chromaWidth width))
+placed-le mode ch rows width column a b c e bound ha hc hb he = go (ltb (column / 2 + 1) (chromaWidth width)) (ltb→lt (column / 2 + 1) (chromaWidth width))
   where
-    go : (t : Bool) → (T t → column / 2 + 1 < chromaWidth width) → sixteenths ch rows (cond t (pairPlace column) tail) a b c e ≤ 16 * bound
-    go true after = sixteenths-le ch rows (pairPlace column) a b c e bound ha (hb (after tt)) hc (he (after tt))
-    go false after = sixteenths-tail-le ch rows a b c e bound ha hc
+    go : (t : Bool) → (T t → column / 2 + 1 < chromaWidth width) → sixteenths mode ch rows (cond t (pairPlace column) tail) a b c e ≤ 16 * bound
+    go true after = sixteenths-le mode ch rows (pairPlace column) a b c e bound ha (hb (after tt)) hc (he (after tt))
+    go false after = sixteenths-tail-le mode ch rows a b c e bound ha hc
 
 -- ---- the kind of blending of a pixel, by pairs of rows and of columns
 
@@ -155,7 +162,7 @@ unfolding chroma16
 chroma16-le s f ch row column within hr hc =
     let near = nearRow-lt (s .sampling) (f .height) row hr in
     let far = farRow-lt (s .sampling) (f .height) row hr in
-    placed-le ch (rowsOf (s .sampling) (f .height) row) (f .width) column _ _ _ _ (maxOf (s .depth))
+    placed-le (s .mode) ch (rowsOf (s .sampling) (f .height) row) (f .width) column _ _ _ _ (maxOf (s .depth))
     (within _ (column / 2) near (omega arith))
     (within _ (column / 2) far (omega arith))
     (λ k. within _ (column / 2 + 1) near k)

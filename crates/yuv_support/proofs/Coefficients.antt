@@ -1,21 +1,24 @@
 -- Each coefficient of a stored row is the whole number nearest to 8192 times the exact one: a law of the rule `nearest` that the row is
--- defined by, for every numerator and denominator. A measured matrix at a known depth has such a row.
+-- defined by, for every numerator and denominator. A measured setting has such a row, of its matrix's own weights.
 -- Assumes nothing.
 use mathlib.Core.Path.{_≡_, refl}
 use Prim.Native.Nat.{ℕ, _+_, _-_, _*_, _≤_, _<_}
 use native.Mathlib.Nat.{mul-div-le, lt-div-mul-add, mul-pos}
 use native.Mathlib.Omega.{arith}
-use lib.Dec.{T}
+use lib.Dec.{T, eqb}
 use Rattle.yuv_support.specs.declared.YuvRange.{YuvRange}
 use Rattle.yuv_support.specs.declared.YuvRange.the-variants.{Limited, Full}
 use Rattle.yuv_support.specs.declared.YuvStandardMatrix.{YuvStandardMatrix}
 use Rattle.yuv_support.specs.declared.YuvStandardMatrix.the-variants.{Bt601, Bt709, Bt2020, Smpte240, Bt470_6, Fcc, Custom}
+use Rattle.yuv_support.specs.declared.YuvMode.{YuvMode}
+use Rattle.yuv_support.specs.declared.YuvMode.the-variants.{AsSource, Matched}
 use Rattle.yuv_support.specs.declared.CbCrInverseTransform.{CbCrInverseTransform}
+use Rattle.yuv_support.specs.declared.Settings.{Settings}
 use Rattle.yuv_support.specs.Settings.{among, depths, maxOf, rangeY, rangeC, weightR, weightB, weightG}
 use Rattle.yuv_support.specs.Coefficients.{nearest, exactY, exactOuter, exactInner, ownRule, storedOf, isStored, coefficientsOf, Nearest, NearestExact}
-use Rattle.yuv_support.specs.Distance.{measured}
+use Rattle.yuv_support.specs.Distance.{measuredAt, measured}
 use Rattle.yuv_support.proofs.Depths.{by-depth}
-use Rattle.yuv_support.proofs.Tests.{passed}
+use Rattle.yuv_support.proofs.Tests.{passed, either}
 
 pub nearest-law : (num den : ℕ) → 0 < den → Nearest num den (nearest num den)
 nearest-law num den h =
@@ -66,31 +69,61 @@ weightG-pos (Custom kr kb) = omega arith
 pub known-nearest : (d : ℕ) (r : YuvRange) (m : YuvStandardMatrix) → T (among d depths) → NearestExact d r m (ownRule d r m)
 known-nearest d r m t = own-nearest d r m (rangeY-pos d r t) (rangeC-pos d r t) (weightG-pos m)
 
--- ---- a measured matrix
+-- ---- a stored row, and that of a measured setting
 
-pub stored-coefficients : (d : ℕ) (r : YuvRange) (m : YuvStandardMatrix) → T (isStored d m) → coefficientsOf d r m ≡ storedOf d r m
+pub stored-known : (d : ℕ) (m : YuvStandardMatrix) → T (isStored d m) → T (among d depths)
+unfolding isStored
+stored-known d Bt601 t = t
+stored-known d Bt709 t = t
+stored-known d Bt2020 t = t
+stored-known d Smpte240 t = either (eqb d 8) _ t
+stored-known d Bt470_6 t = either (eqb d 8) _ t
+stored-known d Fcc t = absurd t
+stored-known d (Custom kr kb) t = absurd t
+
+measured-stored : (d : ℕ) (m : YuvStandardMatrix) (mode : YuvMode) → T (among d depths) → T (measuredAt d m mode) → T (isStored d m)
+unfolding isStored measuredAt
+measured-stored d Bt601 mode t u = t
+measured-stored d Bt709 mode t u = t
+measured-stored d Bt2020 mode t u = t
+measured-stored d Smpte240 AsSource t u = absurd u
+measured-stored d Smpte240 Matched t u = u
+measured-stored d Bt470_6 mode t u = absurd u
+measured-stored d Fcc mode t u = absurd u
+measured-stored d (Custom kr kb) mode t u = absurd u
+
+-- it is the row of the matrix's own weights
+measured-own : (d : ℕ) (r : YuvRange) (m : YuvStandardMatrix) (mode : YuvMode) → T (measuredAt d m mode) → storedOf d r m mode ≡ ownRule d r m
+unfolding storedOf measuredAt
+measured-own d r Bt601 mode u = refl
+measured-own d r Bt709 mode u = refl
+measured-own d r Bt2020 mode u = refl
+measured-own d r Smpte240 AsSource u = absurd u
+measured-own d r Smpte240 Matched u = refl
+measured-own d r Bt470_6 mode u = absurd u
+measured-own d r Fcc mode u = absurd u
+measured-own d r (Custom kr kb) mode u = absurd u
+
+pub stored-nearest : (d : ℕ) (r : YuvRange) (m : YuvStandardMatrix) (mode : YuvMode) → T (isStored d m) → T (measuredAt d m mode)
+    → NearestExact d r m (storedOf d r m mode)
+stored-nearest d r m mode t u = rw (measured-own d r m mode u) (known-nearest d r m (stored-known d m t))
+
+pub stored-coefficients : (s : Settings) → T (isStored (s .depth) (s .matrix)) → coefficientsOf s ≡ storedOf (s .depth) (s .range) (s .matrix) (s .mode)
 unfolding coefficientsOf
-stored-coefficients d r m t = rw (passed (isStored d m) t)
+stored-coefficients s t = rw (passed (isStored (s .depth) (s .matrix)) t)
 
-pub measured-coefficients : (d : ℕ) (r : YuvRange) (m : YuvStandardMatrix) → T (among d depths) → T (measured m) → coefficientsOf d r m ≡ ownRule d r m
-unfolding isStored storedOf measured
-measured-coefficients d r Bt601 t u = stored-coefficients d r Bt601 t
-measured-coefficients d r Bt709 t u = stored-coefficients d r Bt709 t
-measured-coefficients d r Bt2020 t u = stored-coefficients d r Bt2020 t
-measured-coefficients d r Smpte240 t u = absurd u
-measured-coefficients d r Bt470_6 t u = absurd u
-measured-coefficients d r Fcc t u = absurd u
-measured-coefficients d r (Custom kr kb) t u = absurd u
+pub measured-nearest : (s : Settings) → T (among (s .depth) depths) → T (measured s) → NearestExact (s .depth) (s .range) (s .matrix) (coefficientsOf s)
+measured-nearest s t u =
+    let stored = measured-stored (s .depth) (s .matrix) (s .mode) t u in
+    rw (stored-coefficients s stored) (stored-nearest (s .depth) (s .range) (s .matrix) (s .mode) stored u)
 
-pub measured-nearest : (d : ℕ) (r : YuvRange) (m : YuvStandardMatrix) → T (among d depths) → T (measured m) → NearestExact d r m (coefficientsOf d r m)
-measured-nearest d r m t u = rw (measured-coefficients d r m t u) (known-nearest d r m t)
-
--- three of the source's rows, at 8 bits and full range: the weights of the measured matrices make these numbers
+-- four rows at 8 bits and full range: the weights of the measured matrices make these numbers
 abbrev rowWith : ℕ → ℕ → ℕ → ℕ → ℕ → CbCrInverseTransform
 rowWith y cr cb g1 g2 = record { y = y; cr = cr; cb = cb; g1 = g1; g2 = g2 }
 
-pub source-rows : (coefficientsOf 8 Full Bt601 ≡ rowWith 8192 11485 14516 5850 2819)
-    × (coefficientsOf 8 Full Bt709 ≡ rowWith 8192 12901 15201 3835 1535)
-    × (coefficientsOf 8 Full Bt2020 ≡ rowWith 8192 12080 15412 4681 1348)
-unfolding coefficientsOf isStored storedOf exactY exactOuter exactInner maxOf rangeY rangeC weightR weightB weightG
-source-rows = (refl, refl, refl)
+pub measured-rows : (mode : YuvMode) → (storedOf 8 Full Bt601 mode ≡ rowWith 8192 11485 14516 5850 2819)
+    × (storedOf 8 Full Bt709 mode ≡ rowWith 8192 12901 15201 3835 1535)
+    × (storedOf 8 Full Bt2020 mode ≡ rowWith 8192 12080 15412 4681 1348)
+    × (storedOf 8 Full Smpte240 Matched ≡ rowWith 8192 12911 14959 3904 1856)
+unfolding storedOf exactY exactOuter exactInner maxOf rangeY rangeC weightR weightB weightG
+measured-rows mode = (refl, refl, refl, refl)

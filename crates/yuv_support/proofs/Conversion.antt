@@ -35,7 +35,7 @@ depth-of-16 d t = each-among (λ d. T (among d depths)) depths16 (tt, (tt, tt)) 
 -- the finished picture meets demand 3
 finished : {Asked : Settings → Frame → Type 0} (s : Settings) (f : Frame) (stride : ℕ) (rgb : List ℕ)
     → f .width * channelsOf (s .order) ≤ stride → needed stride (f .width * channelsOf (s .order)) (f .height) ≤ length rgb
-    → (T (measured (s .matrix)) → Asked s f → ComponentsClose s f) → Demand3 Asked s f stride rgb (picture s f stride rgb)
+    → (T (measured s) → Asked s f → ComponentsClose s f) → Demand3 Asked s f stride rgb (picture s f stride rgb)
 unfolding picture
 finished s f stride rgb fits long close = record {
   pixels = λ row column hr hc.

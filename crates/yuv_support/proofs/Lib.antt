@@ -12,3 +12,4 @@ pub mod Rows
 pub mod Picture
 pub mod Questions
 pub mod Conversion
+pub mod Mode

@@ -9,11 +9,11 @@ use native.Mathlib.Omega.{arith}
 use borrow.Author.Tests.{leb-true, ltb-true, ne-eqb}
 use lib.Dec.{T, eqb, leb, ltb}
 use lib.ListN.{getD}
-use Rattle.yuv_support.specs.Settings.{samplingOf, orderOf, rangeOf, matrixOf, lastPacking, among}
+use Rattle.yuv_support.specs.Settings.{samplingOf, orderOf, lastPacking, among}
 use Rattle.yuv_support.specs.Coefficients.{usable}
 use Rattle.yuv_support.specs.Blend.{chromaWidth, chromaHeight}
 use Rattle.yuv_support.specs.Picture.{channelsOf}
-use Rattle.yuv_support.specs.Questions.{Question, Verdict, Request, ask, accepted, verdict, needed, questionsOf, conversionQuestions}
+use Rattle.yuv_support.specs.Questions.{Question, Verdict, Request, ask, accepted, verdict, decoded, needed, questionsOf, conversionQuestions}
 
 -- ---- any list of questions
 
@@ -81,6 +81,7 @@ pub record Accepted (known : List ℕ) (q : Request) : Type 0 where
   pub range : q .codes .range ≤ 1
   pub matrix : q .codes .matrix ≤ 6
   pub packing : q .codes .packing ≤ lastPacking (q .codes .depth)
+  pub mode : q .codes .mode ≤ 1
   pub depth : T (among (q .codes .depth) known)
   pub width-least : 1 ≤ q .image .width
   pub height-least : 1 ≤ q .image .height
@@ -94,7 +95,7 @@ pub record Accepted (known : List ℕ) (q : Request) : Type 0 where
   pub u-length : needed (q .image .«u_stride») (chromaWidth (q .image .width)) (chromaHeight (samplingOf (q .codes .sampling)) (q .image .height)) ≤ q .u-length
   pub v-stride : chromaWidth (q .image .width) ≤ q .image .«v_stride»
   pub v-length : needed (q .image .«v_stride») (chromaWidth (q .image .width)) (chromaHeight (samplingOf (q .codes .sampling)) (q .image .height)) ≤ q .v-length
-  pub weights : T (usable (q .codes .depth) (rangeOf (q .codes .range)) (matrixOf (q .codes .matrix) (q .codes .kr) (q .codes .kb)))
+  pub weights : T (usable (decoded (q .codes)))
 
 -- question k + 1 stands at place k
 pub accepted-facts : (known : List ℕ) (q : Request) → verdict (conversionQuestions known q) .number ≡ 0 → Accepted known q
@@ -105,6 +106,7 @@ accepted-facts known q e =
     let codes′ = and-eq-true-iff (leb (q .codes .range) 1) _ .0 (codes .1) in
     let codes″ = and-eq-true-iff (leb (q .codes .matrix) 6) _ .0 (codes′ .1) in
     let codes‴ = and-eq-true-iff (leb (q .codes .packing) (lastPacking (q .codes .depth))) _ .0 (codes″ .1) in
+    let codes⁗ = and-eq-true-iff (leb (q .codes .mode) 1) _ .0 (codes‴ .1) in
     let least = and-eq-true-iff (leb 1 (q .image .width)) _ .0 (h 2) in
     let most = and-eq-true-iff (leb (q .image .width) 16384) _ .0 (h 3) in
     record {
@@ -113,7 +115,8 @@ accepted-facts known q e =
       range = leb-true _ _ (codes′ .0);
       matrix = leb-true _ _ (codes″ .0);
       packing = leb-true _ _ (codes‴ .0);
-      depth = subst⁻¹ T (codes‴ .1) tt;
+      mode = leb-true _ _ (codes⁗ .0);
+      depth = subst⁻¹ T (codes⁗ .1) tt;
       width-least = leb-true _ _ (least .0);
       height-least = leb-true _ _ (least .1);
       width-most = leb-true _ _ (most .0);

@@ -27,6 +27,13 @@ both false b h = absurd h
 pub three : (a b c : Bool) → T (a && (b && c)) → T a × T b × T c
 three a b c h = let u = both a (b && c) h in let v = both b c (u .1) in (u .0, v .0, v .1)
 
+pub four : (a b c d : Bool) → T (a && (b && (c && d))) → T a × T b × T c × T d
+four a b c d h = let u = both a (b && (c && d)) h in let v = three b c d (u .1) in (u .0, v .0, v .1, v .2)
+
+pub either : (a b : Bool) → T a → T (a || b)
+either true b h = h
+either false b h = absurd h
+
 pub or-false : (t : Bool) → t ≡ (t || false)
 or-false true = refl
 or-false false = refl

@@ -1,4 +1,4 @@
--- Document 01, "Blending": which samples a pixel takes, and chroma at a pixel, unrounded, in sixteenths.
+-- Document 01, "Blending", and document 02, slip 4: which samples a pixel takes, and chroma at a pixel, unrounded, in sixteenths.
 -- Definitions only.
 use Prim.Native.Nat.{ℕ, _+_, _-_, _*_, _/_, _%_, min}
 use mathlib.Core.Bool.{cond}
@@ -7,6 +7,8 @@ use lib.Dec.{eqb, ltb}
 use lib.ListN.{getD}
 use Rattle.yuv_support.specs.declared.YuvChromaSubsampling.{YuvChromaSubsampling}
 use Rattle.yuv_support.specs.declared.YuvChromaSubsampling.the-variants.{Yuv420, Yuv422}
+use Rattle.yuv_support.specs.declared.YuvMode.{YuvMode}
+use Rattle.yuv_support.specs.declared.YuvMode.the-variants.{AsSource, Matched}
 use Rattle.yuv_support.specs.declared.Settings.{Settings}
 use Rattle.yuv_support.specs.declared.YuvPlanarImage.{YuvPlanarImage}
 use Rattle.yuv_support.specs.Settings.{unpacked}
@@ -91,16 +93,22 @@ unfoldable pub farRow : YuvChromaSubsampling → ℕ → ℕ → ℕ
 farRow Yuv420 height row = cond (eqb (row % 2) 0) (nextRow height row) (row / 2)
 farRow Yuv422 height row = row
 
--- ---- the weights, in sixteenths: a and b are the near row's samples k and k + 1, c and e the far row's
+-- ---- the weights, in sixteenths
 
-unfoldable pub sixteenths : Chroma → Rows → Place → ℕ → ℕ → ℕ → ℕ → ℕ
-sixteenths ch one left a b c e = 12 * a + 4 * b
-sixteenths ch one right a b c e = 4 * a + 12 * b
-sixteenths ch one tail a b c e = 16 * a
-sixteenths ch two left a b c e = 9 * a + 3 * b + 3 * c + e
-sixteenths ch two right a b c e = 3 * a + 9 * b + c + 3 * e
-sixteenths Cb two tail a b c e = 12 * a + 4 * c
-sixteenths Cr two tail a b c e = 4 * a + 12 * c
+-- the two-row tail: as in the source Cr takes more of the far row; matched, it has Cb's weights
+abbrev pub tailOf : YuvMode → Chroma → ℕ → ℕ → ℕ
+tailOf mode Cb near far = 12 * near + 4 * far
+tailOf AsSource Cr near far = 4 * near + 12 * far
+tailOf Matched Cr near far = 12 * near + 4 * far
+
+-- a and b are the near row's samples k and k + 1, c and e the far row's
+unfoldable pub sixteenths : YuvMode → Chroma → Rows → Place → ℕ → ℕ → ℕ → ℕ → ℕ
+sixteenths mode ch one left a b c e = 12 * a + 4 * b
+sixteenths mode ch one right a b c e = 4 * a + 12 * b
+sixteenths mode ch one tail a b c e = 16 * a
+sixteenths mode ch two left a b c e = 9 * a + 3 * b + 3 * c + e
+sixteenths mode ch two right a b c e = 3 * a + 9 * b + c + 3 * e
+sixteenths mode ch two tail a b c e = tailOf mode ch a c
 
 -- luma at a pixel, and unrounded chroma in sixteenths
 abbrev pub lumaAt : Settings → Frame → ℕ → ℕ → ℕ
@@ -113,7 +121,7 @@ unfoldable pub chroma16 : Settings → Frame → Chroma → ℕ → ℕ → ℕ
 chroma16 s f ch row column =
     let near = nearRow (s .sampling) (f .height) row in
     let far = farRow (s .sampling) (f .height) row in
-    sixteenths ch (rowsOf (s .sampling) (f .height) row) (placeOf (f .width) column)
+    sixteenths (s .mode) ch (rowsOf (s .sampling) (f .height) row) (placeOf (f .width) column)
     (chromaSample s f ch near (column / 2))
     (chromaSample s f ch near (column / 2 + 1))
     (chromaSample s f ch far (column / 2))

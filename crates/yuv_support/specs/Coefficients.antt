@@ -1,4 +1,4 @@
--- Document 01, "Coefficients": the five whole-number coefficients of a depth, a range and a matrix.
+-- Document 01, "Coefficients", and document 02, slip 4: the five whole-number coefficients of a setting, and question 13.
 -- Definitions only.
 use Prim.Native.Nat.{ℕ, _+_, _-_, _*_, _/_, _≤_, min}
 use mathlib.Core.Bool.{Bool, true, false, cond, _&&_}
@@ -8,9 +8,12 @@ use lib.Ieee.{Float, nan, inf, fin, up, down, binary32, ofInt, mul, sub, div, lt
 use Rattle.yuv_support.specs.declared.YuvRange.{YuvRange}
 use Rattle.yuv_support.specs.declared.YuvStandardMatrix.{YuvStandardMatrix}
 use Rattle.yuv_support.specs.declared.YuvStandardMatrix.the-variants.{Bt601, Bt709, Bt2020, Smpte240, Bt470_6, Fcc, Custom}
+use Rattle.yuv_support.specs.declared.YuvMode.{YuvMode}
+use Rattle.yuv_support.specs.declared.YuvMode.the-variants.{AsSource, Matched}
 use Rattle.yuv_support.specs.declared.YuvBias.{YuvBias}
 use Rattle.yuv_support.specs.declared.InverseTransformF32.{InverseTransformF32}
 use Rattle.yuv_support.specs.declared.CbCrInverseTransform.{CbCrInverseTransform}
+use Rattle.yuv_support.specs.declared.Settings.{Settings}
 use Rattle.yuv_support.specs.Settings.{among, depths, maxOf, rangeY, rangeC, weightR, weightB, weightG, weightsOf}
 
 -- ---- the stored rows
@@ -42,15 +45,16 @@ ruleOf d r kr kb kg = record {
 abbrev pub ownRule : ℕ → YuvRange → YuvStandardMatrix → CbCrInverseTransform
 ownRule d r m = ruleOf d r (weightR m) (weightB m) (weightG m)
 
--- the stored row: by the rule, but `Smpte240` (stored at depth 8 only) has kr and kb exchanged
-unfoldable pub storedOf : ℕ → YuvRange → YuvStandardMatrix → CbCrInverseTransform
-storedOf d r Bt601 = ownRule d r Bt601
-storedOf d r Bt709 = ownRule d r Bt709
-storedOf d r Bt2020 = ownRule d r Bt2020
-storedOf d r Smpte240 = ruleOf d r (weightB Smpte240) (weightR Smpte240) (weightG Smpte240)
-storedOf d r Bt470_6 = ownRule d r Bt470_6
-storedOf d r Fcc = ownRule d r Fcc
-storedOf d r (Custom kr kb) = ownRule d r (Custom kr kb)
+-- the stored row: by the rule, but as in the source `Smpte240` (stored at depth 8 only) has kr and kb exchanged
+unfoldable pub storedOf : ℕ → YuvRange → YuvStandardMatrix → YuvMode → CbCrInverseTransform
+storedOf d r Bt601 mode = ownRule d r Bt601
+storedOf d r Bt709 mode = ownRule d r Bt709
+storedOf d r Bt2020 mode = ownRule d r Bt2020
+storedOf d r Smpte240 AsSource = ruleOf d r (weightB Smpte240) (weightR Smpte240) (weightG Smpte240)
+storedOf d r Smpte240 Matched = ownRule d r Smpte240
+storedOf d r Bt470_6 mode = ownRule d r Bt470_6
+storedOf d r Fcc mode = ownRule d r Fcc
+storedOf d r (Custom kr kb) mode = ownRule d r (Custom kr kb)
 
 -- whether there is a stored row: depth 8 has matrices 0 to 4, depths 10 and 12 have 0 to 2
 unfoldable pub isStored : ℕ → YuvStandardMatrix → Bool
@@ -130,8 +134,11 @@ computedOf d r m = toIntegers (inverseTransform (maxOf d) (rangeY d r) (rangeC d
 
 -- ---- the coefficients of a setting: `search_inverse_transform`
 
-unfoldable pub coefficientsOf : ℕ → YuvRange → YuvStandardMatrix → CbCrInverseTransform
-coefficientsOf d r m = cond (isStored d m) (storedOf d r m) (computedOf d r m)
+unfoldable pub coefficientsOf : Settings → CbCrInverseTransform
+coefficientsOf s =
+    cond (isStored (s .depth) (s .matrix))
+    (storedOf (s .depth) (s .range) (s .matrix) (s .mode))
+    (computedOf (s .depth) (s .range) (s .matrix))
 
 -- ---- question 13
 
@@ -143,13 +150,19 @@ isWeight k = le (f32 0) k && le k (f32 1)
 abbrev pub greenFits : CbCrInverseTransform → Bool
 greenFits t = leb (t .g1 + t .g2) 32767
 
--- for Custom: both are weights, f32 (1 − kr) − kb is above 0, and green fits
-unfoldable pub usable : ℕ → YuvRange → YuvStandardMatrix → Bool
-usable d r Bt601 = true
-usable d r Bt709 = true
-usable d r Bt2020 = true
-usable d r Smpte240 = true
-usable d r Bt470_6 = true
-usable d r Fcc = true
-usable d r (Custom kr kb) =
-    isWeight kr && (isWeight kb && (lt (f32 0) (greenWeight (record { kr = kr; kb = kb })) && greenFits (coefficientsOf d r (Custom kr kb))))
+-- Custom's weights with the coefficients t: both are weights, f32 (1 − kr) − kb is above 0, and green fits
+unfoldable pub customUsable : YuvBias → CbCrInverseTransform → Bool
+customUsable k t = isWeight (k .kr) && (isWeight (k .kb) && (lt (f32 0) (greenWeight k) && greenFits t))
+
+-- any matrix with the coefficients t
+unfoldable pub usableWith : YuvStandardMatrix → CbCrInverseTransform → Bool
+usableWith Bt601 t = true
+usableWith Bt709 t = true
+usableWith Bt2020 t = true
+usableWith Smpte240 t = true
+usableWith Bt470_6 t = true
+usableWith Fcc t = true
+usableWith (Custom kr kb) t = customUsable (record { kr = kr; kb = kb }) t
+
+unfoldable pub usable : Settings → Bool
+usable s = usableWith (s .matrix) (coefficientsOf s)

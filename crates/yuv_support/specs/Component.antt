@@ -33,7 +33,7 @@ quotient z = shrZ (z +ℤ pos 4096) 8192
 
 unfoldable pub quotientOf : Settings → Component → ℕ → ℕ → ℕ → ℤ
 quotientOf s c y cb cr =
-    quotient (sumOf (coefficientsOf (s .depth) (s .range) (s .matrix)) (biasY (s .depth) (s .range)) (biasC (s .depth)) c y cb cr)
+    quotient (sumOf (coefficientsOf s) (biasY (s .depth) (s .range)) (biasC (s .depth)) c y cb cr)
 
 -- the component: the quotient clamped to 0..M
 unfoldable pub componentOf : Settings → Component → ℕ → ℕ → ℕ → ℕ

@@ -42,8 +42,8 @@ pub record Demand3 (Asked : Settings → Frame → Type 0) (s : Settings) (f : F
   -- 2. all else is kept: every element that belongs to no pixel, and the length
   pub kept : (j : ℕ) → OfNoPixel s f stride j → getD out j 0 ≡ getD rgb j 0
   pub same-length : length out ≡ length rgb
-  -- 3. for BT.601, BT.709 and BT.2020 every component of every pixel lies less than the depth's bound from its exact equation
-  pub distance : T (measured (s .matrix)) → Asked s f → Faithful s f stride out
+  -- 3. in a measured setting every component of every pixel lies less than the depth's bound from its exact equation
+  pub distance : T (measured s) → Asked s f → Faithful s f stride out
 
 -- it holds whenever the call is accepted
 abbrev pub Demand3After : (Settings → Frame → Type 0) → List ℕ → Codes → YuvPlanarImage → List ℕ → List ℕ → List ℕ → ℕ → List ℕ → List ℕ → Type 0

@@ -1,5 +1,5 @@
--- Document 01, "The words of demand 3": the exact equations in whole numbers, and how far a component lies from its own.
--- Conversion has the whole claim.
+-- Document 01, "The words of demand 3", and document 02, slips 1 and 4: the exact equations in whole numbers, and how far a component lies
+-- from its own. Conversion has the whole claim.
 -- Definitions only.
 use mathlib.Core.Path.{_≡_}
 use Prim.Native.Nat.{ℕ, _+_, _-_, _*_, _≤_, _<_}
@@ -12,6 +12,8 @@ use Rattle.yuv_support.specs.declared.YuvRange.{YuvRange}
 use Rattle.yuv_support.specs.declared.YuvStandardMatrix.{YuvStandardMatrix}
 use Rattle.yuv_support.specs.declared.YuvStandardMatrix.the-variants.{Bt601, Bt709, Bt2020, Smpte240, Bt470_6, Fcc, Custom}
 use Rattle.yuv_support.specs.declared.YuvBytesPacking.the-variants.{LeastSignificantBytes, MostSignificantBytes}
+use Rattle.yuv_support.specs.declared.YuvMode.{YuvMode}
+use Rattle.yuv_support.specs.declared.YuvMode.the-variants.{AsSource, Matched}
 use Rattle.yuv_support.specs.declared.Settings.{Settings}
 use Rattle.yuv_support.specs.Settings.{among, depths16, maxOf, biasY, biasC, rangeY, rangeC, weightR, weightB, weightG}
 use Rattle.yuv_support.specs.Blend.{Frame, Cb, Cr, sample, chromaWidth, chromaHeight, lumaAt, chroma16}
@@ -66,15 +68,19 @@ Close d r m x e = boundDen d * apart (x * D d r m) (clamp (maxOf d * D d r m) e)
 
 -- ---- what demand 3 says of the distance, and of which pictures
 
--- BT.601, BT.709 and BT.2020
-unfoldable pub measured : YuvStandardMatrix → Bool
-measured Bt601 = true
-measured Bt709 = true
-measured Bt2020 = true
-measured Smpte240 = false
-measured Bt470_6 = false
-measured Fcc = false
-measured (Custom kr kb) = false
+-- BT.601, BT.709 and BT.2020; matched, `Smpte240` at depth 8 too
+unfoldable pub measuredAt : ℕ → YuvStandardMatrix → YuvMode → Bool
+measuredAt d Bt601 mode = true
+measuredAt d Bt709 mode = true
+measuredAt d Bt2020 mode = true
+measuredAt d Smpte240 AsSource = false
+measuredAt d Smpte240 Matched = eqb d 8
+measuredAt d Bt470_6 mode = false
+measuredAt d Fcc mode = false
+measuredAt d (Custom kr kb) mode = false
+
+abbrev pub measured : Settings → Bool
+measured s = measuredAt (s .depth) (s .matrix) (s .mode)
 
 -- samples within the depth: none inside the sides of a plane is above M
 abbrev pub PlaneWithin : Settings → List ℕ → ℕ → ℕ → ℕ → Type 0

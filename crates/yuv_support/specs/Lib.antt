@@ -6,3 +6,4 @@ pub mod Picture
 pub mod Questions
 pub mod Distance
 pub mod Conversion
+pub mod Mode

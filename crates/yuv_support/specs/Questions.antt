@@ -1,4 +1,4 @@
--- Document 01, "Questions to every conversion", and document 02, slip 1: questions 1 to 14, the verdict, and the two readers.
+-- Document 01, "Questions to every conversion", and document 02, slips 1 and 4: questions 1 to 14, the verdict, and the two readers.
 -- Definitions only.
 use Prim.Native.Nat.{ℕ, _+_, _-_, _*_}
 use mathlib.Core.Bool.{Bool, cond, _&&_}
@@ -9,7 +9,7 @@ use Rattle.yuv_support.specs.declared.YuvChromaSubsampling.{YuvChromaSub
 use Rattle.yuv_support.specs.declared.Codes.{Codes}
 use Rattle.yuv_support.specs.declared.Settings.{Settings}
 use Rattle.yuv_support.specs.declared.YuvPlanarImage.{YuvPlanarImage}
-use Rattle.yuv_support.specs.Settings.{samplingOf, orderOf, rangeOf, matrixOf, packingOf, lastPacking, among}
+use Rattle.yuv_support.specs.Settings.{samplingOf, orderOf, rangeOf, matrixOf, packingOf, lastPacking, modeOf, among}
 use Rattle.yuv_support.specs.Coefficients.{usable}
 use Rattle.yuv_support.specs.Blend.{chromaWidth, chromaHeight, nearRow}
 use Rattle.yuv_support.specs.Picture.{channelsOf}
@@ -74,6 +74,7 @@ decoded c = record {
   range = rangeOf (c .range);
   matrix = matrixOf (c .matrix) (c .kr) (c .kb);
   packing = packingOf (c .packing);
+  mode = modeOf (c .mode);
 }
 
 -- ---- the questions
@@ -85,7 +86,7 @@ samplingKnown sampling = ask 1 (leb sampling 1)
 -- 2; which depths are known is a matter of the element's width
 abbrev pub codesKnown : Bool → Codes → Question
 codesKnown depthKnown c =
-    ask 2 (leb (c .order) 3 && (leb (c .range) 1 && (leb (c .matrix) 6 && (leb (c .packing) (lastPacking (c .depth)) && depthKnown))))
+    ask 2 (leb (c .order) 3 && (leb (c .range) 1 && (leb (c .matrix) 6 && (leb (c .packing) (lastPacking (c .depth)) && (leb (c .mode) 1 && depthKnown)))))
 
 -- 3 and 4
 abbrev pub sides : ℕ → ℕ → List Question
@@ -113,7 +114,7 @@ chromaPlanes s width height u v =
 
 -- 13
 abbrev pub weightsUsable : Settings → Question
-weightsUsable s = ask 13 (usable (s .depth) (s .range) (s .matrix))
+weightsUsable s = ask 13 (usable s)
 
 -- 14
 abbrev pub rowBelow : ℕ → ℕ → Question

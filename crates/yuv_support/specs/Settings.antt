@@ -1,5 +1,5 @@
--- Document 01, "Settings", and document 02, slip 1: what each code means, the numbers of a depth and a range, how samples are packed, and the
--- weights of a matrix.
+-- Document 01, "Settings", and document 02, slips 1 and 4: what each code means, the numbers of a depth and a range, how samples are packed,
+-- and the weights of a matrix.
 -- Definitions only.
 use Prim.Native.Nat.{ℕ, _-_, _*_, _/_, _^_}
 use mathlib.Core.Bool.{Bool, false, cond, _||_}
@@ -16,6 +16,8 @@ use Rattle.yuv_support.specs.declared.YuvSourceChannels.{YuvSourceChanne
 use Rattle.yuv_support.specs.declared.YuvSourceChannels.the-variants.{Rgb, Rgba, Bgra, Bgr}
 use Rattle.yuv_support.specs.declared.YuvBytesPacking.{YuvBytesPacking}
 use Rattle.yuv_support.specs.declared.YuvBytesPacking.the-variants.{LeastSignificantBytes, MostSignificantBytes}
+use Rattle.yuv_support.specs.declared.YuvMode.{YuvMode}
+use Rattle.yuv_support.specs.declared.YuvMode.the-variants.{AsSource, Matched}
 use Rattle.yuv_support.specs.declared.YuvBias.{YuvBias}
 use Rattle.yuv_support.specs.declared.YuvChromaRange.{YuvChromaRange}
 
@@ -50,6 +52,10 @@ packingOf code = cond (eqb code 0) LeastSignificantBytes MostSignificantBytes
 -- the last packing that is known at a depth: depth 8 has packing 0 only
 abbrev pub lastPacking : ℕ → ℕ
 lastPacking d = cond (eqb d 8) 0 1
+
+-- mode: 0 as in the source, 1 matched
+abbrev pub modeOf : ℕ → YuvMode
+modeOf code = cond (eqb code 0) AsSource Matched
 
 -- x is one of the list's numbers
 abbrev pub among : ℕ → List ℕ → Bool

@@ -1,10 +1,10 @@
-// The settings of a conversion as types: range, matrix, sampling, channel order and packing, the two weights, the five coefficients.
+// The settings of a conversion as types: range, matrix, sampling, channel order, packing and mode, the two weights, the five coefficients.
 // Codes are decoded here and nowhere else. The definitions of a conversion stand in specs/, one module to a subject; those of the answers'
 // numbers, the settings used, the readers and the sheet in the specs of their own crates.
 ghost use mathlib.Core.Path.{_≡_};
 ghost use Prim.Native.Nat.{_-_, _^_, _<_, _≤_};
 ghost use lib.Dec.{T};
-ghost use Rattle.yuv_support.specs.Settings.{samplingOf, orderOf, rangeOf, matrixOf, packingOf, lastPacking, among, depths, maxOf, chromaRangeOf};
+ghost use Rattle.yuv_support.specs.Settings.{samplingOf, orderOf, rangeOf, matrixOf, packingOf, lastPacking, modeOf, among, depths, maxOf, chromaRangeOf};
 ghost use Rattle.yuv_support.specs.Picture.{channelsOf};
 ghost use Rattle.yuv_support.specs.Questions.{decoded};
 
@@ -42,6 +42,12 @@ pub enum YuvSourceChannels {
 pub enum YuvBytesPacking {
     LeastSignificantBytes,
     MostSignificantBytes,
+}
+
+// Two departures of the source, kept or put right: the two-row tail of Cr, and `Smpte240` at 8 bits.
+pub enum YuvMode {
+    AsSource,
+    Matched,
 }
 
 // The weights kr and kb of a matrix.
@@ -85,6 +91,7 @@ pub struct Codes {
     pub range: u32,
     pub matrix: u32,
     pub packing: u32,
+    pub mode: u32,
     pub kr: f32,
     pub kb: f32,
 }
@@ -97,6 +104,7 @@ pub struct Settings {
     pub range: YuvRange,
     pub matrix: YuvStandardMatrix,
     pub packing: YuvBytesPacking,
+    pub mode: YuvMode,
 }
 
 // The sides of a picture and the strides of its planes, which stand beside it as slices.
@@ -161,6 +169,15 @@ pub fn packing_of(code: u32) -> YuvBytesPacking
     }
 }
 
+pub fn mode_of(code: u32) -> YuvMode
+    ensures { λ r. ⌜ r ≡ modeOf code ⌝ }
+{
+    match code {
+        0 => YuvMode::AsSource,
+        _ => YuvMode::Matched,
+    }
+}
+
 // The settings that the codes stand for. Codes that questions 1 and 2 refuse stand for none.
 pub fn decode(codes: Codes) -> Settings
     ensures { λ r. ⌜ r ≡ decoded codes ⌝ }
@@ -170,6 +187,7 @@ pub fn decode(codes: Codes) -> Settings
     let range = range_of(codes.range);
     let matrix = matrix_of(codes.matrix, codes.kr, codes.kb);
     let packing = packing_of(codes.packing);
+    let mode = mode_of(codes.mode);
     Settings {
         depth: codes.depth,
         sampling,
@@ -177,6 +195,7 @@ pub fn decode(codes: Codes) -> Settings
         range,
         matrix,
         packing,
+        mode,
     }
 }
 

@@ -4,7 +4,7 @@ use crate::reference::Reference;
 use crate::{model, Codes, Extent, Planes, Request};
 
 /// An element of a plane.
-pub trait Element: Reference + PartialEq {
+pub trait Element: Reference + PartialEq + Into<i64> {
     const BITS: u32;
     const DEPTHS: &'static [u32];
     fn low(value: u16) -> Self;
@@ -101,13 +101,13 @@ pub fn packings(depth: u32) -> &'static [u32] {
     }
 }
 
-/// Known codes, with weights.
+/// Known codes of mode 0, with weights.
 pub fn codes<T: Element>(random: &mut Random) -> Codes {
     let (depth, range) = (random.pick(T::DEPTHS), random.below(2));
     let (kr, kb) = weights(random, depth, range);
     let (sampling, order, matrix) = (random.below(2), random.below(4), random.below(7));
     let packing = random.pick(packings(depth));
-    Codes { depth, sampling, order, range, matrix, packing, kr, kb }
+    Codes { depth, sampling, order, range, matrix, packing, mode: 0, kr, kb }
 }
 
 const DEPTHS: [u32; 15] = [0, 1, 7, 8, 9, 10, 11, 12, 13, 14, 16, 32, 264, 266, u32::MAX];
@@ -116,18 +116,19 @@ const ORDERS: [u32; 8] = [0, 1, 2, 3, 4, 5, 256, u32::MAX];
 const RANGES: [u32; 6] = [0, 1, 2, 3, 256, u32::MAX];
 const MATRICES: [u32; 13] = [0, 1, 2, 3, 4, 5, 6, 7, 8, 9, 256, 262, u32::MAX];
 const PACKINGS: [u32; 6] = [0, 1, 2, 3, 256, u32::MAX];
+pub const MODES: [u32; 6] = [0, 1, 2, 3, 256, u32::MAX];
 
-/// Known and unknown codes in all combinations.
-pub fn every_code() -> impl Iterator<Item = Codes> {
-    let lists: [&[u32]; 6] = [&DEPTHS, &SAMPLINGS, &ORDERS, &RANGES, &MATRICES, &PACKINGS];
+/// Known and unknown codes in all combinations, with some of the modes.
+pub fn every_code(modes: &[u32]) -> impl Iterator<Item = Codes> + '_ {
+    let lists: [&[u32]; 7] = [&DEPTHS, &SAMPLINGS, &ORDERS, &RANGES, &MATRICES, &PACKINGS, modes];
     (0..lists.iter().map(|list| list.len()).product()).map(move |n: usize| {
         let mut rest = n;
-        let [depth, sampling, order, range, matrix, packing] = lists.map(|list| {
+        let [depth, sampling, order, range, matrix, packing, mode] = lists.map(|list| {
             let code = list[rest % list.len()];
             rest /= list.len();
             code
         });
-        Codes { depth, sampling, order, range, matrix, packing, kr: 0.0, kb: 0.0 }
+        Codes { depth, sampling, order, range, matrix, packing, mode, kr: 0.0, kb: 0.0 }
     })
 }
 

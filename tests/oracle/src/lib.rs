@@ -1,8 +1,10 @@
-//! Compares the proved library with the scalar Rust of yuvutils-rs and with document 01's questions.
-//! The setting `packing` is that of document 02, slip 1.
+//! Compares the proved library with the scalar Rust of yuvutils-rs, with document 01's questions and,
+//! in matched mode, with a second reading of the documents. The settings `packing` and `mode` are
+//! those of document 02, slips 1 and 4.
 
 pub mod cases;
 pub mod library;
+pub mod matched;
 pub mod model;
 pub mod random;
 pub mod reference;
@@ -55,6 +57,7 @@ pub struct Codes {
     pub range: u32,
     pub matrix: u32,
     pub packing: u32,
+    pub mode: u32,
     pub kr: f32,
     pub kb: f32,
 }

@@ -1,5 +1,6 @@
-//! Document 01's questions 1 to 14, with the packing of document 02's slip 1, written from their
-//! text. The Rust has no number for 1, 2, 4, 13 and 14; for the others this is a second opinion.
+//! Document 01's questions 1 to 14, with the packing and the mode of document 02's slips 1 and 4,
+//! written from their text. The Rust has no number for 1, 2, 4, 13 and 14; for the others this is a
+//! second opinion.
 use crate::{Answer, Codes, Extent, Part, Request, SettingsUsed};
 
 type Asked = Result<(), Answer>;
@@ -36,7 +37,7 @@ fn conversion_asked(bits: u32, q: &Request) -> Asked {
 /// Questions 1 and 2, where `depths` are known.
 fn codes(depths: &[u32], c: &Codes) -> Asked {
     ask(1, c.sampling <= 1, 0, 0)?;
-    let others = c.order <= 3 && c.range <= 1 && c.matrix <= 6;
+    let others = c.order <= 3 && c.range <= 1 && c.matrix <= 6 && c.mode <= 1;
     ask(2, depths.contains(&c.depth) && others && packing_known(c), 0, 0)
 }
 
@@ -45,9 +46,11 @@ fn packing_known(c: &Codes) -> bool {
     c.packing == 0 || c.packing == 1 && c.depth != 8
 }
 
-/// Whether question 2 gets a "no" for the packing alone.
-pub fn packing_alone(depths: &[u32], c: &Codes) -> bool {
-    !packing_known(c) && codes(depths, &Codes { packing: 0, ..*c }).is_ok()
+/// Of refused codes, the setting of document 02 for which alone they are refused.
+pub fn alone(depths: &[u32], c: &Codes) -> Option<&'static str> {
+    let others = [("packing", Codes { packing: 0, ..*c }), ("mode", Codes { mode: 0, ..*c })];
+    let found = others.into_iter().find(|(_, other)| codes(depths, other).is_ok());
+    found.map(|(name, _)| name)
 }
 
 /// Questions 3 and 4.

@@ -1,6 +1,6 @@
 //! The Rust, called by codes. It takes samples in the low bits; those in the high bits are divided
-//! for it. Where it would panic it must not be called: an unknown code, and Custom weights that
-//! question 13 refuses.
+//! for it. It has no mode: what it answers is mode 0. Where it would panic it must not be called: an
+//! unknown code, and Custom weights that question 13 refuses.
 use crate::{Answer, Codes, Planes, Request, SettingsUsed};
 use source::{YuvError, YuvPlanarImage, YuvRange, YuvStandardMatrix};
 use std::ops::{RangeInclusive, Shr};

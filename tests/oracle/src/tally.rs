@@ -1,11 +1,12 @@
 //! Counts of what was compared, and the smallest inputs that differ.
+use std::collections::BTreeMap;
 use std::process::ExitCode;
 
 #[derive(Default)]
 pub struct Tally {
     pub calls: u64,
     by_number: [u64; 16],
-    by_packing: u64,
+    alone: BTreeMap<&'static str, u64>,
     different: u64,
     smallest: Vec<(usize, String)>,
 }
@@ -17,9 +18,9 @@ impl Tally {
         self.by_number[number as usize] += 1;
     }
 
-    /// Counts a call that was refused for its packing alone.
-    pub fn count_packing(&mut self) {
-        self.by_packing += 1;
+    /// Counts the setting, if there is one, for which alone a call was refused.
+    pub fn count_alone(&mut self, setting: Option<&'static str>) {
+        setting.into_iter().for_each(|name| *self.alone.entry(name).or_default() += 1);
     }
 
     /// Counts a difference, on an input of `size` samples.
@@ -45,8 +46,8 @@ impl Tally {
         let answers: Vec<String> =
             answers.map(|(number, calls)| format!("{number}: {calls}")).collect();
         println!("  calls by number: {}", answers.join(", "));
-        if self.by_packing > 0 {
-            println!("  of number 2, for the packing alone: {}", self.by_packing);
+        for (setting, calls) in &self.alone {
+            println!("  of number 2, for the {setting} alone: {calls}");
         }
         for (_, text) in &self.smallest {
             println!("different:\n{text}");

@@ -39,8 +39,8 @@ lent c = let start = c .before .before .before .before .before .before .before .
       v-other = c .row165 .ensures;
     }
 
-cast-interpolate-row : tie.Need-cast-interpolate-row
-cast-interpolate-row c = search needs
+cast-width : tie.Need-cast-width
+cast-width c = search needs
 
 interpolate-row-requires : tie.Need-interpolate-row-requires
 interpolate-row-requires c κs =
@@ -70,7 +70,7 @@ convert-row-spec =
     row16-requires-3
     row16-requires-4
     row16-requires-5
-    cast-interpolate-row
+    cast-width
     interpolate-row-requires
     same-length
     returns)

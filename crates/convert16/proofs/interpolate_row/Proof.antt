@@ -31,20 +31,20 @@ shared-slice-read-tail16-2 c = search needs
 tail16-requires : tie.Need-tail16-requires
 tail16-requires c κs = search needs
 
-mul-tail16-3 : tie.Need-mul-tail16-3
-mul-tail16-3 c = search needs
+mul-cr-tail16 : tie.Need-mul-cr-tail16
+mul-cr-tail16 c = search needs
 
-shared-slice-read-tail16-3 : tie.Need-shared-slice-read-tail16-3
-shared-slice-read-tail16-3 c = search needs
+shared-slice-read-cr-tail16 : tie.Need-shared-slice-read-cr-tail16
+shared-slice-read-cr-tail16 c = search needs
 
-mul-tail16-4 : tie.Need-mul-tail16-4
-mul-tail16-4 c = search needs
+mul-cr-tail16-2 : tie.Need-mul-cr-tail16-2
+mul-cr-tail16-2 c = search needs
 
-shared-slice-read-tail16-4 : tie.Need-shared-slice-read-tail16-4
-shared-slice-read-tail16-4 c = search needs
+shared-slice-read-cr-tail16-2 : tie.Need-shared-slice-read-cr-tail16-2
+shared-slice-read-cr-tail16-2 c = search needs
 
-tail16-requires-2 : tie.Need-tail16-requires-2
-tail16-requires-2 c κs = search needs
+cr-tail16-requires : tie.Need-cr-tail16-requires
+cr-tail16-requires c κs = search needs
 
 enum-told : tie.Need-enum-told
 enum-told c = search needs
@@ -75,28 +75,28 @@ same-length c = search needs
 
 returns : tie.Need-returns
 unfolding orderedValue redFirst channelsOf lettersOf
-returns c = rw (c .before .before .before .before .enum-told .given .1) (c .before .before .interpolate3 .ensures ∙ rw (c .before .before .before .before .before .before .tail162 .ensures, c .before .before .before .before .before .before .before .before .before .tail16 .ensures))
+returns c = rw (c .before .before .before .before .enum-told .given .1) (c .before .before .interpolate3 .ensures ∙ rw (c .before .before .before .before .before .before .cr-tail16 .ensures, c .before .before .before .before .before .before .before .before .before .tail16 .ensures))
 
 same-length-2 : tie.Need-same-length-2
 same-length-2 c = search needs
 
 returns-2 : tie.Need-returns-2
 unfolding orderedValue redFirst channelsOf lettersOf
-returns-2 c = rw (c .before .before .before .before .enum-told2 .given .1) (c .before .before .interpolate4 .ensures ∙ rw (c .before .before .before .before .before .before .tail162 .ensures, c .before .before .before .before .before .before .before .before .before .tail16 .ensures))
+returns-2 c = rw (c .before .before .before .before .enum-told2 .given .1) (c .before .before .interpolate4 .ensures ∙ rw (c .before .before .before .before .before .before .cr-tail16 .ensures, c .before .before .before .before .before .before .before .before .before .tail16 .ensures))
 
 same-length-3 : tie.Need-same-length-3
 same-length-3 c = search needs
 
 returns-3 : tie.Need-returns-3
 unfolding orderedValue redFirst channelsOf lettersOf
-returns-3 c = rw (c .before .before .before .before .enum-told3 .given .1) (c .before .before .interpolate42 .ensures ∙ rw (c .before .before .before .before .before .before .tail162 .ensures, c .before .before .before .before .before .before .before .before .before .tail16 .ensures))
+returns-3 c = rw (c .before .before .before .before .enum-told3 .given .1) (c .before .before .interpolate42 .ensures ∙ rw (c .before .before .before .before .before .before .cr-tail16 .ensures, c .before .before .before .before .before .before .before .before .before .tail16 .ensures))
 
 same-length-4 : tie.Need-same-length-4
 same-length-4 c = search needs
 
 returns-4 : tie.Need-returns-4
 unfolding orderedValue redFirst channelsOf lettersOf
-returns-4 c = rw (c .before .before .before .before .enum-told4 .given .1) (c .before .before .interpolate32 .ensures ∙ rw (c .before .before .before .before .before .before .tail162 .ensures, c .before .before .before .before .before .before .before .before .before .tail16 .ensures))
+returns-4 c = rw (c .before .before .before .before .enum-told4 .given .1) (c .before .before .interpolate32 .ensures ∙ rw (c .before .before .before .before .before .before .cr-tail16 .ensures, c .before .before .before .before .before .before .before .before .before .tail16 .ensures))
 
 pub interpolate-row-spec : {M : Type 1} → statement M
 interpolate-row-spec =
@@ -109,11 +109,11 @@ interpolate-row-spec =
     mul-tail16-2
     shared-slice-read-tail16-2
     tail16-requires
-    mul-tail16-3
-    shared-slice-read-tail16-3
-    mul-tail16-4
-    shared-slice-read-tail16-4
-    tail16-requires-2
+    mul-cr-tail16
+    shared-slice-read-cr-tail16
+    mul-cr-tail16-2
+    shared-slice-read-cr-tail16-2
+    cr-tail16-requires
     enum-told
     interpolate3-requires
     enum-told-2

@@ -25,14 +25,14 @@ shared-slice-read-tail8-2 c = search needs
 tail8-requires : tie.Need-tail8-requires
 tail8-requires c κs = search needs
 
-shared-slice-read-tail8-3 : tie.Need-shared-slice-read-tail8-3
-shared-slice-read-tail8-3 c = search needs
+shared-slice-read-cr-tail8 : tie.Need-shared-slice-read-cr-tail8
+shared-slice-read-cr-tail8 c = search needs
 
-shared-slice-read-tail8-4 : tie.Need-shared-slice-read-tail8-4
-shared-slice-read-tail8-4 c = search needs
+shared-slice-read-cr-tail8-2 : tie.Need-shared-slice-read-cr-tail8-2
+shared-slice-read-cr-tail8-2 c = search needs
 
-tail8-requires-2 : tie.Need-tail8-requires-2
-tail8-requires-2 c κs = search needs
+cr-tail8-requires : tie.Need-cr-tail8-requires
+cr-tail8-requires c κs = search needs
 
 enum-told : tie.Need-enum-told
 enum-told c = search needs
@@ -63,28 +63,28 @@ same-length c = search needs
 
 returns : tie.Need-returns
 unfolding orderedValue redFirst channelsOf lettersOf
-returns c = rw (c .before .before .before .before .enum-told .given .1) (c .before .before .interpolate3 .ensures ∙ rw (c .before .before .before .before .before .before .tail82 .ensures, c .before .before .before .before .before .before .before .before .before .tail8 .ensures))
+returns c = rw (c .before .before .before .before .enum-told .given .1) (c .before .before .interpolate3 .ensures ∙ rw (c .before .before .before .before .before .before .cr-tail8 .ensures, c .before .before .before .before .before .before .before .before .before .tail8 .ensures))
 
 same-length-2 : tie.Need-same-length-2
 same-length-2 c = search needs
 
 returns-2 : tie.Need-returns-2
 unfolding orderedValue redFirst channelsOf lettersOf
-returns-2 c = rw (c .before .before .before .before .enum-told2 .given .1) (c .before .before .interpolate4 .ensures ∙ rw (c .before .before .before .before .before .before .tail82 .ensures, c .before .before .before .before .before .before .before .before .before .tail8 .ensures))
+returns-2 c = rw (c .before .before .before .before .enum-told2 .given .1) (c .before .before .interpolate4 .ensures ∙ rw (c .before .before .before .before .before .before .cr-tail8 .ensures, c .before .before .before .before .before .before .before .before .before .tail8 .ensures))
 
 same-length-3 : tie.Need-same-length-3
 same-length-3 c = search needs
 
 returns-3 : tie.Need-returns-3
 unfolding orderedValue redFirst channelsOf lettersOf
-returns-3 c = rw (c .before .before .before .before .enum-told3 .given .1) (c .before .before .interpolate42 .ensures ∙ rw (c .before .before .before .before .before .before .tail82 .ensures, c .before .before .before .before .before .before .before .before .before .tail8 .ensures))
+returns-3 c = rw (c .before .before .before .before .enum-told3 .given .1) (c .before .before .interpolate42 .ensures ∙ rw (c .before .before .before .before .before .before .cr-tail8 .ensures, c .before .before .before .before .before .before .before .before .before .tail8 .ensures))
 
 same-length-4 : tie.Need-same-length-4
 same-length-4 c = search needs
 
 returns-4 : tie.Need-returns-4
 unfolding orderedValue redFirst channelsOf lettersOf
-returns-4 c = rw (c .before .before .before .before .enum-told4 .given .1) (c .before .before .interpolate32 .ensures ∙ rw (c .before .before .before .before .before .before .tail82 .ensures, c .before .before .before .before .before .before .before .before .before .tail8 .ensures))
+returns-4 c = rw (c .before .before .before .before .enum-told4 .given .1) (c .before .before .interpolate32 .ensures ∙ rw (c .before .before .before .before .before .before .cr-tail8 .ensures, c .before .before .before .before .before .before .before .before .before .tail8 .ensures))
 
 pub interpolate-row-spec : {M : Type 1} → statement M
 interpolate-row-spec =
@@ -95,9 +95,9 @@ interpolate-row-spec =
     shared-slice-read-tail8
     shared-slice-read-tail8-2
     tail8-requires
-    shared-slice-read-tail8-3
-    shared-slice-read-tail8-4
-    tail8-requires-2
+    shared-slice-read-cr-tail8
+    shared-slice-read-cr-tail8-2
+    cr-tail8-requires
     enum-told
     interpolate3-requires
     enum-told-2

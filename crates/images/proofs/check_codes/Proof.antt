@@ -5,6 +5,7 @@ use borrow.Author.Tests.{le-leb, lt-leb}
 use mathlib.Core.Path.{_≡_}
 use mathlib.Core.Bool.{true}
 use lib.Dec.{leb}
+use Rattle.yuv_support.specs.declared.Codes.{Codes}
 use Rattle.yuv_support.specs.Settings.{lastPacking}
 use Rattle.yuv_support.specs.Questions.{verdict}
 use Rattle.yuv_error.specs.Told.{told}
@@ -31,16 +32,30 @@ unfolding verdict told
 returns-4 c = simp (le-leb _ _ (c .before .before .before .before .before .before .before .if1 .left), le-leb _ _ (c .before .before .before .before .before .if2 .left), le-leb _ _ (c .before .before .before .if3 .left), lt-leb _ _ (rw (c .before .before .last-packing .ensures) at (c .if4 .taken)))
 
 -- past the test of the packing
-packing-known : (c : tie.Else4) → let a = c .before .before .before .before .before .before .before .before .before .args in leb (a .codes .packing) (lastPacking (a .codes .depth)) ≡ true
-packing-known c = le-leb _ _ (rw (c .before .before .last-packing .ensures) at (c .if4 .left))
+codes-of : tie.Else4 → Codes
+codes-of c = c .before .before .before .before .before .before .before .before .before .args .codes
+
+known : (c : tie.Else4) → let codes = codes-of c in
+    (leb (codes .order) 3 ≡ true) × (leb (codes .range) 1 ≡ true) × (leb (codes .matrix) 6 ≡ true) × (leb (codes .packing) (lastPacking (codes .depth)) ≡ true)
+unfolding codes-of
+known c = (
+  le-leb _ _ (c .before .before .before .before .before .before .before .if1 .left),
+  le-leb _ _ (c .before .before .before .before .before .if2 .left),
+  le-leb _ _ (c .before .before .before .if3 .left),
+  le-leb _ _ (rw (c .before .before .last-packing .ensures) at (c .if4 .left)),
+)
 
 returns-5 : tie.Need-returns-5
-unfolding verdict told
-returns-5 c = simp (le-leb _ _ (c .before .before .before .before .before .before .before .before .if1 .left), le-leb _ _ (c .before .before .before .before .before .before .if2 .left), le-leb _ _ (c .before .before .before .before .if3 .left), packing-known (c .before), c .if5 .taken)
+unfolding verdict told codes-of
+returns-5 c = let k = known (c .before .before) in simp (k .0, k .1, k .2, k .3, lt-leb _ _ (c .if5 .taken))
 
 returns-6 : tie.Need-returns-6
-unfolding verdict told
-returns-6 c = simp (le-leb _ _ (c .before .before .before .before .before .before .before .before .if1 .left), le-leb _ _ (c .before .before .before .before .before .before .if2 .left), le-leb _ _ (c .before .before .before .before .if3 .left), packing-known (c .before), c .if5 .left)
+unfolding verdict told codes-of
+returns-6 c = let k = known (c .before .before .before) in simp (k .0, k .1, k .2, k .3, le-leb _ _ (c .before .if5 .left), c .if6 .taken)
+
+returns-7 : tie.Need-returns-7
+unfolding verdict told codes-of
+returns-7 c = let k = known (c .before .before .before) in simp (k .0, k .1, k .2, k .3, le-leb _ _ (c .before .if5 .left), c .if6 .left)
 
 pub check-codes-spec : {M : Type 1} → statement M
-check-codes-spec = tie.close (tie.spec returns returns-2 returns-3 last-packing-requires returns-4 returns-5 returns-6)
+check-codes-spec = tie.close (tie.spec returns returns-2 returns-3 last-packing-requires returns-4 returns-5 returns-6 returns-7)

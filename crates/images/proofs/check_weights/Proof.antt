@@ -2,32 +2,26 @@
 -- Assumes nothing.
 use borrow.Author.Needs.{needs}
 use mathlib.Core.Path.{_≡_, sym, _∙_}
-use Rattle.yuv_support.specs.Settings.{rangeOf, matrixOf}
 use Rattle.yuv_support.specs.Coefficients.{usable}
-use Rattle.yuv_support.specs.Questions.{verdict}
+use Rattle.yuv_support.specs.Questions.{decoded, verdict}
 use Rattle.yuv_error.specs.Told.{told}
 use Rattle.inverse_transform.proofs.Coefficients.{usable-from}
 use Rattle.images.proofs.check_weights.Statement.{statement}
 use Rattle.images.proofs.check_weights.Tie as tie
 
-range-of-requires : tie.Need-range-of-requires
-range-of-requires c κs = search needs
-
-matrix-of-requires : tie.Need-matrix-of-requires
-matrix-of-requires c κs = search needs
+decode-requires : tie.Need-decode-requires
+decode-requires c κs = search needs
 
 search-inverse-transform-requires : tie.Need-search-inverse-transform-requires
-search-inverse-transform-requires c κs = search needs
+search-inverse-transform-requires c κs = rw (c .decode .ensures) (c .before .pre)
 
 is-usable-requires : tie.Need-is-usable-requires
 is-usable-requires c κs = search needs
 
-usable-is-result : (c : tie.After-is-usable) → let a = c .before .before .before .before .args in
-    usable (a .codes .depth) (rangeOf (a .codes .range)) (matrixOf (a .codes .matrix) (a .codes .kr) (a .codes .kb)) ≡ c .is-usable .result
+usable-is-result : (c : tie.After-is-usable) → usable (decoded (c .before .before .before .args .codes)) ≡ c .is-usable .result
 usable-is-result c =
-    let a = c .before .before .before .before .args in
-    rw (← c .before .before .before .range-of .ensures, ← c .before .before .matrix-of .ensures)
-    (sym (usable-from (a .codes .depth) _ _ _ _ (c .before .search-inverse-transform .ensures) (c .is-usable .ensures)))
+    rw (← c .before .before .decode .ensures)
+    (sym (usable-from (c .before .before .decode .result) _ _ (c .before .search-inverse-transform .ensures) (c .is-usable .ensures)))
 
 returns : tie.Need-returns
 unfolding verdict told
@@ -38,12 +32,4 @@ unfolding verdict told
 returns-2 c = simp (usable-is-result (c .before) ∙ c .if1 .left)
 
 pub check-weights-spec : {M : Type 1} → statement M
-check-weights-spec =
-    tie.close
-    (tie.spec
-    range-of-requires
-    matrix-of-requires
-    search-inverse-transform-requires
-    is-usable-requires
-    returns
-    returns-2)
+check-weights-spec = tie.close (tie.spec decode-requires search-inverse-transform-requires is-usable-requires returns returns-2)

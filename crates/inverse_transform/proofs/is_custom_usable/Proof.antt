@@ -6,8 +6,7 @@ use mathlib.Core.Path.{_≡_, refl, sym, _∙_}
 use mathlib.Core.Bool.{Bool, true, false, not, _&&_}
 use lib.Ieee.{Float, binary32, ofBits, lt}
 use Rattle.yuv_support.specs.declared.YuvBias.{YuvBias}
-use Rattle.yuv_support.specs.Coefficients.{f32, greenWeight}
-use Rattle.inverse_transform.specs.Usable.{customUsable}
+use Rattle.yuv_support.specs.Coefficients.{f32, greenWeight, customUsable}
 use Rattle.inverse_transform.proofs.Constants.{zero-is}
 use Rattle.inverse_transform.proofs.is_custom_usable.Statement.{statement}
 use Rattle.inverse_transform.proofs.is_custom_usable.Tie as tie

@@ -11,7 +11,7 @@ use Rattle.yuv_support.specs.declared.YuvStandardMatrix.{YuvStandardMatrix}
 use Rattle.yuv_support.specs.declared.YuvStandardMatrix.the-variants.{Bt601, Bt709, Bt2020, Smpte240, Bt470_6, Fcc, Custom}
 use Rattle.yuv_support.specs.declared.CbCrInverseTransform.{CbCrInverseTransform}
 use Rattle.yuv_support.proofs.YuvStandardMatrix.{the-type}
-use Rattle.inverse_transform.specs.Usable.{usableWith}
+use Rattle.yuv_support.specs.Coefficients.{usableWith}
 use Rattle.inverse_transform.proofs.is_usable.Statement.{statement}
 use Rattle.inverse_transform.proofs.is_usable.Tie as tie
 

@@ -19,15 +19,12 @@ computed-requires : tie.Need-computed-requires
 computed-requires c κs = search needs
 
 returns : tie.Need-returns
-returns c =
-    let a = c .before .before .before .before .args in
-    row-found (a .depth) (a .range) (a .matrix) _ (sym (c .before .row .given .1) ∙ c .before .before .before .get-built-inverse-transform .ensures .0)
+returns c = row-found (c .before .before .before .before .args .s) _ (sym (c .before .row .given .1) ∙ c .before .before .before .get-built-inverse-transform .ensures .0)
 
 returns-2 : tie.Need-returns-2
 returns-2 c =
-    let a = c .before .before .before .before .args in
     c .computed .ensures
-    ∙ no-row (a .depth) (a .range) (a .matrix) (sym (c .before .enum-told .given .1) ∙ c .before .before .before .get-built-inverse-transform .ensures .0)
+    ∙ no-row (c .before .before .before .before .args .s) (sym (c .before .enum-told .given .1) ∙ c .before .before .before .get-built-inverse-transform .ensures .0)
 
 pub search-inverse-transform-spec : {M : Type 1} → statement M
 search-inverse-transform-spec =

@@ -15,8 +15,7 @@ is-red-first-requires c κs = search needs
 
 kernel-of-requires : tie.Need-kernel-of-requires
 kernel-of-requires c κs =
-    let a = c .before .before .args .s in
-    (c .before .before .pre .0, rw (c .before .search-inverse-transform .ensures) (narrow (a .depth) (a .range) (a .matrix) (c .before .before .pre .0) (c .before .before .pre .1)))
+    (c .before .before .pre .0, rw (c .before .search-inverse-transform .ensures) (narrow (c .before .before .args .s) (c .before .before .pre .0) (c .before .before .pre .1)))
 
 returns : tie.Need-returns
 unfolding kernelOf

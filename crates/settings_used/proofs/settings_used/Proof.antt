@@ -4,7 +4,8 @@ use borrow.Author.Needs.{needs}
 use borrow.Author.Tests.{not-true, not-false}
 use mathlib.Core.Path.{_≡_, sym, _∙_}
 use mathlib.Core.Bool.{true}
-use lib.Dec.{eqb}
+use lib.Dec.{T, eqb}
+use Rattle.yuv_support.specs.Settings.{among, depths}
 use Rattle.yuv_error.specs.Told.{told}
 use Rattle.settings_used.proofs.Verdicts.{refused-used, accepted-used, depth-known}
 use Rattle.settings_used.proofs.settings_used.Statement.{statement}
@@ -32,27 +33,24 @@ returns c =
 accepted : (c : tie.Else1) → eqb (told (c .before .before .check-settings .result) .number) 0 ≡ true
 accepted c = sym (c .before .is-accepted .ensures) ∙ not-false _ (c .if1 .left)
 
-range-of-requires : tie.Need-range-of-requires
-range-of-requires c κs = search needs
+-- and the depth is known
+known : (c : tie.Else1) → T (among (c .before .before .before .args .codes .depth) depths)
+known c = depth-known (c .before .before .before .args .codes) _ (c .before .before .check-settings .ensures) (accepted c)
 
-matrix-of-requires : tie.Need-matrix-of-requires
-matrix-of-requires c κs = search needs
+decode-requires : tie.Need-decode-requires
+decode-requires c κs = search needs
 
 search-inverse-transform-requires : tie.Need-search-inverse-transform-requires
-search-inverse-transform-requires c κs =
-    let d = c .before .before in
-    depth-known (d .before .before .before .args .codes) _ (d .before .before .check-settings .ensures) (accepted d)
+search-inverse-transform-requires c κs = rw (c .decode .ensures) (known (c .before))
 
 used-requires : tie.Need-used-requires
-used-requires c κs =
-    let d = c .before .before .before in
-    depth-known (d .before .before .before .args .codes) _ (d .before .before .check-settings .ensures) (accepted d)
+used-requires c κs = known (c .before .before)
 
 returns-2 : tie.Need-returns-2
 returns-2 c =
-    let d = c .before .before .before .before in
+    let d = c .before .before .before in
     c .used .ensures
-    ∙ rw (c .before .search-inverse-transform .ensures, c .before .before .matrix-of .ensures, c .before .before .before .range-of .ensures)
+    ∙ rw (c .before .search-inverse-transform .ensures, c .before .before .decode .ensures)
     (accepted-used (d .before .before .before .args .codes) _ (d .before .before .check-settings .ensures) (accepted d))
 
 pub settings-used-spec : {M : Type 1} → statement M
@@ -64,8 +62,7 @@ settings-used-spec =
     told-of-requires
     refused-requires
     returns
-    range-of-requires
-    matrix-of-requires
+    decode-requires
     search-inverse-transform-requires
     used-requires
     returns-2)

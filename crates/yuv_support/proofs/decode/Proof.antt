@@ -19,9 +19,12 @@ matrix-of-requires c κs = search needs
 packing-of-requires : tie.Need-packing-of-requires
 packing-of-requires c κs = search needs
 
+mode-of-requires : tie.Need-mode-of-requires
+mode-of-requires c κs = search needs
+
 returns : tie.Need-returns
 returns c =
-    rw (c .before .before .before .before .sampling-of .ensures, c .before .before .before .order-of .ensures, c .before .before .range-of .ensures, c .before .matrix-of .ensures, c .packing-of .ensures)
+    rw (c .before .before .before .before .before .sampling-of .ensures, c .before .before .before .before .order-of .ensures, c .before .before .before .range-of .ensures, c .before .before .matrix-of .ensures, c .before .packing-of .ensures, c .mode-of .ensures)
 
 pub decode-spec : {M : Type 1} → statement M
 decode-spec =
@@ -32,4 +35,5 @@ decode-spec =
     range-of-requires
     matrix-of-requires
     packing-of-requires
+    mode-of-requires
     returns)

@@ -1,7 +1,7 @@
-//! Compares the settings used with those of the Rust, named and Custom, and with questions 1, 2 and
-//! 13.
-use oracle::cases::{every_code, limit, packings, EDGES};
-use oracle::{library, model, random::Random, reference, tally::Tally, Codes};
+//! Compares the settings used, named and Custom, with those of the Rust, in matched mode with
+//! `src/matched.rs`, and with questions 1, 2 and 13.
+use oracle::cases::{every_code, limit, packings, EDGES, MODES};
+use oracle::{library, matched, model, random::Random, reference, tally::Tally, Codes};
 use std::process::ExitCode;
 
 const DEPTHS: [u32; 3] = [8, 10, 12];
@@ -16,9 +16,12 @@ fn main() -> ExitCode {
             println!("depth {depth}, range {range}: {} Custom pairs", pairs.len());
             for (kr, kb) in pairs {
                 let (sampling, order) = (random.below(2), random.below(4));
-                let packing = random.pick(packings(depth));
-                let codes = Codes { depth, sampling, order, range, matrix: 6, packing, kr, kb };
-                compare(&mut tally, codes);
+                let (matrix, packing) = (6, random.pick(packings(depth)));
+                for mode in 0..2 {
+                    let codes =
+                        Codes { depth, sampling, order, range, matrix, packing, mode, kr, kb };
+                    compare(&mut tally, codes);
+                }
             }
         }
     }
@@ -30,11 +33,11 @@ fn compare(tally: &mut Tally, codes: Codes) {
     let ours = library::settings(&codes);
     let mut wanted = model::settings(&codes);
     if wanted.number == 0 {
-        wanted = reference::settings(&codes);
+        wanted = [reference::settings, matched::settings][codes.mode as usize](&codes);
     }
     tally.count(ours.number);
-    if ours.number == 2 && model::packing_alone(&DEPTHS, &codes) {
-        tally.count_packing();
+    if ours.number == 2 {
+        tally.count_alone(model::alone(&DEPTHS, &codes));
     }
     let text = |what: &str| {
         let (kr, kb) = (kr.to_bits(), kb.to_bits());
@@ -55,7 +58,7 @@ fn compare(tally: &mut Tally, codes: Codes) {
 fn named_and_unknown(tally: &mut Tally) {
     const WEIGHTS: [(f32, f32); 5] =
         [(0.0, 0.0), (0.25, 0.25), (0.5, 0.5), (f32::NAN, 0.5), (-1.0, f32::INFINITY)];
-    for codes in every_code() {
+    for codes in every_code(&MODES) {
         for (kr, kb) in WEIGHTS {
             compare(tally, Codes { kr, kb, ..codes });
         }

@@ -3,7 +3,7 @@
 use oracle::cases::{request, TIGHT};
 use oracle::library::{self, Convert};
 use oracle::reference::{self, Reference};
-use oracle::{Codes, Extent, Planes, Request};
+use oracle::{matched, Codes, Extent, Planes, Request};
 use source::yuv_p16_to_rgba16_bilinear::{i014_to_rgb14_bilinear, i016_to_rgb16_bilinear};
 use source::YuvRange;
 use std::panic::{catch_unwind, set_hook, take_hook, AssertUnwindSafe};
@@ -19,9 +19,14 @@ fn main() {
     weights();
 }
 
-/// Settings at 8 bits, full range, RGB.
+/// Settings at 8 bits, full range, RGB, mode 0.
 fn full(sampling: u32, matrix: u32, kr: f32, kb: f32) -> Codes {
-    Codes { depth: 8, sampling, order: 0, range: 1, matrix, packing: 0, kr, kb }
+    Codes { depth: 8, sampling, order: 0, range: 1, matrix, packing: 0, mode: 0, kr, kb }
+}
+
+/// The same settings as in the source and in matched mode.
+fn modes(codes: Codes) -> [(&'static str, Codes); 2] {
+    [("as in the source", codes), ("matched", Codes { mode: 1, ..codes })]
 }
 
 /// Planes of one colour.
@@ -58,10 +63,16 @@ fn ours<T: Convert>(q: &Request, planes: &Planes<T>) -> Result<Vec<T>, u64> {
     }
 }
 
-/// The picture that both make.
+/// The picture that both make; in matched mode the library and the second reading.
 fn both(q: &Request, planes: &Planes<u8>) -> Vec<u8> {
     let picture = ours(q, planes).expect("accepted");
-    assert_eq!(rust(q, planes), Ok(picture.clone()));
+    if q.codes.mode == 0 {
+        assert_eq!(rust(q, planes), Ok(picture.clone()));
+    } else {
+        let mut second = vec![0; q.rgb.len];
+        matched::convert(q, planes, &mut second);
+        assert_eq!(second, picture);
+    }
     picture
 }
 
@@ -76,29 +87,38 @@ fn exact(c: &Codes, kr: f64, kb: f64, [y, cb, cr]: [u32; 3]) -> [f64; 3] {
     [luma + (1.0 - kr) * cr, luma - green, luma + (1.0 - kb) * cb]
 }
 
-/// Kept: the weights of `Smpte240` at 8 bits.
+/// Kept in mode 0: the weights of `Smpte240` at 8 bits.
 fn smpte240() {
     println!("Smpte240, Y 100, U 128, V 178, full range, 8 bits");
-    for (name, codes) in
-        [("Smpte240", full(0, 3, 0.0, 0.0)), ("Custom 0.212, 0.087", full(0, 6, 0.212, 0.087))]
-    {
+    let pixel = |name: &str, codes: Codes| {
         let q = request(codes, 1, 1, TIGHT);
         println!("  {name}: R, G, B {:?}", both(&q, &flat(&q, [100, 128, 178])));
+    };
+    for (mode, codes) in modes(full(0, 3, 0.0, 0.0)) {
+        pixel(&format!("Smpte240, {mode}"), codes);
     }
-    for depth in [8, 10, 12] {
-        let s = library::settings(&Codes { depth, ..full(0, 3, 0.0, 0.0) });
-        println!("  coefficients at {depth} bits: cr {}, cb {}", s.cr, s.cb);
+    pixel("Custom 0.212, 0.087", full(0, 6, 0.212, 0.087));
+    for (mode, codes) in modes(full(0, 3, 0.0, 0.0)) {
+        for depth in [8, 10, 12] {
+            let s = library::settings(&Codes { depth, ..codes });
+            println!("  coefficients at {depth} bits, {mode}: cr {}, cb {}", s.cr, s.cb);
+        }
     }
 }
 
-/// Kept: the tail of rows that blend two chroma rows, here 0 and 1. A weight of one half makes its
-/// colour's coefficient 1, so that with Y 128 blue is Cb, or red is Cr.
+/// Kept in mode 0: Cr's tail in rows that blend two chroma rows, here 0 and 1. A weight of one half
+/// makes its colour's coefficient 1, so that with Y 128 blue is Cb, or red is Cr.
 fn cr_tail() {
     println!("tail, width 1, height 3, U and V rows 10 and 30");
     for (name, kr, kb, letter) in [("Cb", 0.25, 0.5, 2), ("Cr", 0.5, 0.25, 0)] {
-        let q = request(full(0, 6, kr, kb), 1, 3, TIGHT);
-        let rgb = both(&q, &[vec![128; 3], vec![10, 30], vec![10, 30]]);
-        println!("  {name} of rows 0 to 2: {:?}", [0, 3, 6].map(|row| rgb[row + letter]));
+        for (mode, codes) in modes(full(0, 6, kr, kb)) {
+            let q = request(codes, 1, 3, TIGHT);
+            let rgb = both(&q, &[vec![128; 3], vec![10, 30], vec![10, 30]]);
+            println!(
+                "  {name} of rows 0 to 2, {mode}: {:?}",
+                [0, 3, 6].map(|row| rgb[row + letter])
+            );
+        }
     }
 }
 

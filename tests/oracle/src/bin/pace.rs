@@ -11,8 +11,17 @@ const WIDTH: u32 = 1920;
 const HEIGHT: u32 = 1080;
 
 /// 8 bits, 4:2:0 to RGBA, limited BT.709.
-const FRAME: Codes =
-    Codes { depth: 8, sampling: 0, order: 1, range: 0, matrix: 1, packing: 0, kr: 0.0, kb: 0.0 };
+const FRAME: Codes = Codes {
+    depth: 8,
+    sampling: 0,
+    order: 1,
+    range: 0,
+    matrix: 1,
+    packing: 0,
+    mode: 0,
+    kr: 0.0,
+    kb: 0.0,
+};
 
 fn main() -> ExitCode {
     println!("{WIDTH} by {HEIGHT}, limited BT.709, medians of {ROUNDS} rounds, in ms");

@@ -1,10 +1,13 @@
-//! Compares whole conversions with the Rust: every destination element, the kept ones too, number,
-//! expected and received. Arguments: how many random pictures for each element width and packing,
-//! and a seed.
-use oracle::cases::{codes, elements, every_code, planes, request, Samples, Slack, SAMPLES, TIGHT};
+//! Compares whole conversions: every destination element, the kept ones too, number, expected and
+//! received. Mode 0 is compared with the Rust, matched mode with `src/matched.rs`, and with the Rust
+//! too where the two must agree. Arguments: how many random pictures for each element width and
+//! packing (in matched mode three fifths of it), and a seed.
+use oracle::cases::{
+    codes, elements, every_code, planes, request, Samples, Slack, MODES, SAMPLES, TIGHT,
+};
 use oracle::library::Convert;
 use oracle::tally::{status, Tally};
-use oracle::{model, random::Random, reference, Codes, Extent, Planes, Request};
+use oracle::{matched, model, random::Random, reference, Codes, Extent, Planes, Request};
 use std::process::ExitCode;
 
 /// Elements before and after the destination, which a conversion is not given.
@@ -14,47 +17,117 @@ fn main() -> ExitCode {
     let mut arguments = std::env::args().skip(1).map(|text| text.parse().expect("a number"));
     let pictures = arguments.next().unwrap_or(500_000);
     let random = Random(arguments.next().unwrap_or(2024));
-    let mut run = Run { tally: Tally::default(), random, pictures, packing: 0 };
+    let (tally, beside) = (Tally::default(), Beside::default());
+    let mut run = Run { tally, beside, random, pictures, packing: 0, mode: 0 };
+
     let triples: Part = ("every Y, Cb and Cr in 12 settings", every_triple);
+    let mut same = run.group("8 bits", (0, 0), &[&known::<u8>()[..], &[triples]].concat());
+    #[cfg(feature = "level_b")]
+    {
+        same &= run.group("10 and 12 bits in the low bits", (0, 0), &known::<u16>());
+        same &= run.group("10 and 12 bits in the high bits", (1, 0), &known::<u16>());
+    }
     let codes: &[Part] = &[
         ("bytes", unknown::<u8>),
         #[cfg(feature = "level_b")]
         ("u16", unknown::<u16>),
     ];
-    let mut same = run.group("8 bits", 0, &[&known::<u8>()[..], &[triples]].concat());
+    same &= run.group("codes known and unknown", (0, 0), codes);
+
+    run.pictures = run.pictures * 3 / 5;
+    let triples: Part = ("every Y, Cb and Cr of Smpte240", every_triple);
+    let parts = [&known::<u8>()[..4], &[triples]].concat();
+    same &= run.group("matched, 8 bits", (0, 1), &parts);
     #[cfg(feature = "level_b")]
     {
-        same &= run.group("10 and 12 bits in the low bits", 0, &known::<u16>());
-        same &= run.group("10 and 12 bits in the high bits", 1, &known::<u16>());
+        let parts = &known::<u16>()[..4];
+        same &= run.group("matched, 10 and 12 bits in the low bits", (0, 1), parts);
+        same &= run.group("matched, 10 and 12 bits in the high bits", (1, 1), parts);
     }
-    same &= run.group("codes known and unknown", 0, codes);
+    let codes: &[Part] = &[
+        ("bytes", other_modes::<u8>),
+        #[cfg(feature = "level_b")]
+        ("u16", other_modes::<u16>),
+    ];
+    same &= run.group("codes with modes known and unknown", (0, 0), codes);
     status(same)
 }
 
-/// Comparisons in groups: each group has its own counts, and one packing for the codes it draws.
+/// Comparisons in groups: each group has its own counts, and one packing and one mode for the codes
+/// it draws.
 struct Run {
     tally: Tally,
+    beside: Beside,
     random: Random,
     pictures: u64,
     packing: u32,
+    mode: u32,
 }
 
 type Part = (&'static str, fn(&mut Run));
 
 impl Run {
     /// Compares the parts of a group and prints its counts; whether nothing differed.
-    fn group(&mut self, name: &str, packing: u32, parts: &[Part]) -> bool {
-        (self.tally, self.packing) = (Tally::default(), packing);
+    fn group(&mut self, name: &str, (packing, mode): (u32, u32), parts: &[Part]) -> bool {
+        (self.tally, self.beside) = (Tally::default(), Beside::default());
+        (self.packing, self.mode) = (packing, mode);
         for (part, compare) in parts {
             let before = self.tally.calls;
             compare(self);
             println!("{name}, {part}: {} compared", self.tally.calls - before);
         }
-        self.tally.print(name)
+        let same = self.tally.print(name);
+        self.beside.print();
+        same
     }
 
     fn codes<T: Convert>(&mut self) -> Codes {
-        Codes { packing: self.packing, ..codes::<T>(&mut self.random) }
+        Codes { packing: self.packing, mode: self.mode, ..codes::<T>(&mut self.random) }
+    }
+}
+
+/// Counts of matched pictures beside the Rust's, which they equal outside the two-row tails, but for
+/// `Smpte240` at 8 bits.
+#[derive(Default)]
+struct Beside {
+    pictures: u64,
+    unlike: u64,
+    elements: u64,
+    different: u64,
+    without_tail: u64,
+}
+
+impl Beside {
+    /// Counts a picture, and how many elements differ where they must not.
+    fn count<T: Convert>(&mut self, q: &Request, ours: &[T], rust: &[T]) -> usize {
+        self.pictures += 1;
+        self.unlike += u64::from(ours != rust);
+        if matched::smpte240_at_8_bits(&q.codes) {
+            return 0;
+        }
+        let channels = model::channels(q.codes.order) as usize;
+        let (mut outside, mut inside) = (rust.to_vec(), 0);
+        for (row, column) in matched::two_row_tail(q) {
+            let start = q.rgb.stride as usize * row as usize + channels * column as usize;
+            let pixel = start..start + channels;
+            outside[pixel.clone()].copy_from_slice(&ours[pixel]);
+            inside += channels;
+        }
+        let different = outside.iter().zip(ours).filter(|(rust, ours)| rust != ours).count();
+        self.elements += (ours.len() - inside) as u64;
+        self.different += different as u64;
+        self.without_tail += u64::from(inside == 0);
+        different
+    }
+
+    fn print(&self) {
+        let Beside { pictures, unlike, elements, different, without_tail } = self;
+        if *pictures > 0 {
+            println!("  matched pictures: {pictures}, not as the Rust's: {unlike}");
+            println!("  of these but Smpte240 at 8 bits, with the Rust's outside two-row tails:");
+            println!("    {elements} elements compared, {different} different");
+            println!("    {without_tail} pictures without such a tail, so compared whole");
+        }
     }
 }
 
@@ -81,15 +154,21 @@ fn compare_planes<T: Convert>(run: &mut Run, q: Request, planes: &Planes<T>) {
     let answer = T::convert(&q, &mut lent, &mut ours[part.clone()]);
     let model = model::conversion(T::BITS, &q);
     run.tally.count(answer.number);
-    if answer.number == 2 && model::packing_alone(T::DEPTHS, &q.codes) {
-        run.tally.count_packing();
+    if answer.number == 2 {
+        run.tally.count_alone(model::alone(T::DEPTHS, &q.codes));
     }
     let rust = match model.number {
         1 | 2 | 4 | 13 => None,
-        _ => Some(T::reference(&q, planes, &mut wanted[part])),
+        _ => Some(T::reference(&q, planes, &mut wanted[part.clone()])),
     };
     let rust_agrees = rust.iter().all(|outcome| reference::agrees(outcome, answer));
-    if answer == model && rust_agrees && lent == *planes && ours == wanted {
+    let mut outside = 0;
+    if q.codes.mode == 1 && model.number == 0 {
+        outside = run.beside.count(&q, &ours[part.clone()], &wanted[part.clone()]);
+        wanted.copy_from_slice(&before);
+        matched::convert(&q, planes, &mut wanted[part]);
+    }
+    if answer == model && rust_agrees && lent == *planes && ours == wanted && outside == 0 {
         return;
     }
     run.tally.differ(q.y.len + q.u.len + q.v.len + q.rgb.len, || {
@@ -97,6 +176,7 @@ fn compare_planes<T: Convert>(run: &mut Run, q: Request, planes: &Planes<T>) {
         format!("  {q:?}\n{answers}")
             + &samples_of(planes, &lent)
             + &differing(&before, &ours, &wanted)
+            + &format!("  not as the Rust's outside the two-row tails: {outside}\n")
     });
 }
 
@@ -120,20 +200,20 @@ fn differing<T: Convert>(before: &[T], ours: &[T], wanted: &[T]) -> String {
     for i in places.into_iter().take(5) {
         let place = i as i64 - GUARD as i64;
         let (before, ours, wanted) = (before[i], ours[i], wanted[i]);
-        text += &format!("    at {place}: before {before:?}, ours {ours:?}, Rust {wanted:?}\n");
+        text += &format!("    at {place}: before {before:?}, ours {ours:?}, wanted {wanted:?}\n");
     }
     text
 }
 
-/// Every setting of a packing, with two pairs of Custom weights, one of them refused.
-fn every_setting<T: Convert>(packing: u32) -> Vec<Codes> {
+/// Every setting of a packing and a mode, with two pairs of Custom weights, one of them refused.
+fn every_setting<T: Convert>(packing: u32, mode: u32) -> Vec<Codes> {
     let matrices = (0..6).map(|matrix| (matrix, 0.0, 0.0)).chain([(6, 0.35, 0.05), (6, 0.5, 0.5)]);
     let mut all = Vec::new();
     for (matrix, kr, kb) in matrices {
         for n in 0..16 {
             let (sampling, order, range) = (n % 2, n / 2 % 4, n / 8);
             for &depth in T::DEPTHS {
-                all.push(Codes { depth, sampling, order, range, matrix, packing, kr, kb });
+                all.push(Codes { depth, sampling, order, range, matrix, packing, mode, kr, kb });
             }
         }
     }
@@ -141,7 +221,7 @@ fn every_setting<T: Convert>(packing: u32) -> Vec<Codes> {
 }
 
 fn small<T: Convert>(run: &mut Run) {
-    let settings = every_setting::<T>(run.packing);
+    let settings = every_setting::<T>(run.packing, run.mode);
     for (width, height) in (0..81).map(|n| (n % 9 + 1, n / 9 + 1)) {
         for codes in &settings {
             for kind in SAMPLES {
@@ -175,12 +255,23 @@ fn limits<T: Convert>(run: &mut Run) {
 /// Known and unknown codes in all combinations, on sides that pass and sides that do not.
 fn unknown<T: Convert>(run: &mut Run) {
     for (width, height) in [(2, 2), (0, 2), (2, 0), (16385, 1), (0, 16385)] {
-        for codes in every_code() {
-            let Codes { kr, kb, .. } = run.codes::<T>();
-            let q = request(Codes { kr, kb, ..codes }, width, height, TIGHT);
-            let q = tiny(&mut run.random, 100, q);
-            compare::<T>(run, Samples::Any, q);
-        }
+        combinations::<T>(run, &MODES[..1], width, height);
+    }
+}
+
+/// The same with every other mode.
+fn other_modes<T: Convert>(run: &mut Run) {
+    for (width, height) in [(2, 3), (0, 2)] {
+        combinations::<T>(run, &MODES[1..], width, height);
+    }
+}
+
+fn combinations<T: Convert>(run: &mut Run, modes: &[u32], width: u32, height: u32) {
+    for codes in every_code(modes) {
+        let Codes { kr, kb, .. } = run.codes::<T>();
+        let q = request(Codes { kr, kb, ..codes }, width, height, TIGHT);
+        let q = tiny(&mut run.random, 100, q);
+        compare::<T>(run, Samples::Any, q);
     }
 }
 
@@ -246,12 +337,14 @@ fn megapixels<T: Convert>(run: &mut Run) {
     }
 }
 
-/// All 2^24 triples of Y, Cb and Cr at 8 bits, in each named setting: a row for each Cb and Cr,
-/// a column for each Y. Chroma is the same along a row, so that blending keeps it.
+/// All 2^24 triples of Y, Cb and Cr at 8 bits, in each named setting, in matched mode in those of
+/// `Smpte240`: a row for each Cb and Cr, a column for each Y. Chroma is the same along a row, so that
+/// blending keeps it.
 fn every_triple(run: &mut Run) {
     let chroma =
         |of: &dyn Fn(usize) -> usize| (0..16384 * 128).map(|i| of(i / 128) as u8).collect();
-    for (matrix, range) in (0..12).map(|n| (n / 2, n % 2)) {
+    let settings = if run.mode == 0 { 0..12 } else { 6..8 };
+    for (matrix, range) in settings.map(|n| (n / 2, n % 2)) {
         for quarter in 0..4 {
             let codes = Codes { sampling: 1, range, matrix, ..run.codes::<u8>() };
             let luma = (0..16384 * 256).map(|i| i as u8).collect();

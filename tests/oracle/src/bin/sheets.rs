@@ -58,7 +58,8 @@ fn answer(input: &[u8]) -> String {
     if order > 3 || range > 1 || matrix > 6 || ![8, 10, 12].contains(&depth) {
         return "refused 2\n".into();
     }
-    let codes = Codes { depth, sampling, order, range, matrix, packing: 0, kr: 0.0, kb: 0.0 };
+    let (packing, mode, kr, kb) = (0, 0, 0.0, 0.0);
+    let codes = Codes { depth, sampling, order, range, matrix, packing, mode, kr, kb };
     let sides = (1..=64).contains(&width) && (1..=64).contains(&height);
     if input.len() > 65_536 || !sides || matrix > 5 {
         return "refused 15\n".into();

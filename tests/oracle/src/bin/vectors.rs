@@ -1,11 +1,12 @@
 //! Writes the list that crates/oracle_vectors replays: calls on small buffers, and what the Rust
 //! answers to each. Every call is one that the Rust answers itself: known codes, weights that
-//! question 13 lets through, sides up to 12.
+//! question 13 lets through, sides up to 12. In matched mode, which comes last, the picture and the
+//! settings used are those of `src/matched.rs`.
 use oracle::cases::{codes, packings, request, Element, Slack, TIGHT};
 use oracle::random::Random;
-use oracle::{model, reference, Answer, Codes, Extent, Planes, Request};
+use oracle::{matched, model, reference, Answer, Codes, Extent, Planes, Request};
 
-const COLUMNS: &str = "depth sampling order range matrix packing kr kb width height \
+const COLUMNS: &str = "depth sampling order range matrix packing mode kr kb width height \
     y_stride u_stride v_stride rgb_stride y_len u_len v_len rgb_len seed top ends \
     number expected received sum max bias_y bias_uv y cr cb g1 g2";
 
@@ -20,8 +21,14 @@ fn main() {
     sides::<u16>(&mut list);
     refusals::<u8>(&mut list);
     refusals::<u16>(&mut list);
+    let as_source = list.lines.len();
+    matched_settings::<u8>(&mut list);
+    matched_settings::<u16>(&mut list);
+    matched_refusals::<u8>(&mut list);
+    matched_refusals::<u16>(&mut list);
     println!("{COLUMNS}\n{}", list.lines.join("\n"));
     eprintln!("{} answers, by number: {:?}", list.lines.len(), list.by_number);
+    eprintln!("the last {} in matched mode", list.lines.len() - as_source);
 }
 
 struct List {
@@ -56,7 +63,8 @@ impl Sequence {
 
 /// A polynomial modulo the largest prime below 2^32.
 fn sum<T: Summed>(buffer: &[T]) -> u64 {
-    buffer.iter().fold(0, |sum, element| (sum * 2147483629 + (*element).into() + 1) % 4294967291)
+    let numbers = buffer.iter().map(|element| Into::<u64>::into(*element));
+    numbers.fold(0, |sum, number| (sum * 2147483629 + number + 1) % 4294967291)
 }
 
 /// Adds a call with its answer.
@@ -68,23 +76,29 @@ fn add<T: Summed>(list: &mut List, mut q: Request, top: u64, ends: bool) {
     let seed = list.lines.len() as u64 + 1;
     let mut sequence = Sequence(seed);
     let planes: Planes<T> = [q.y, q.u, q.v].map(|plane| sequence.fill(plane.len, top, ends));
-    let mut rgb: Vec<T> = sequence.fill(q.rgb.len, most::<T>(), false);
+    let before: Vec<T> = sequence.fill(q.rgb.len, most::<T>(), false);
+    let mut rgb = before.clone();
     let outcome = T::reference(&q, &planes, &mut rgb);
     // The Rust has one name for 9 to 12: which of them it is follows from their order.
     let answer = model::conversion(T::BITS, &q);
     assert!(reference::agrees(&outcome, answer), "{q:?}: {outcome:?}, {answer:?}");
+    if q.codes.mode == 1 && answer.number == 0 {
+        rgb = before;
+        matched::convert(&q, &planes, &mut rgb);
+    }
     list.by_number[answer.number as usize] += 1;
     let numbers = line(&q, [seed, top, ends.into()], answer, sum(&rgb));
     list.lines.push(numbers.map(|number| number.to_string()).join(" "));
 }
 
 #[rustfmt::skip]
-fn line(q: &Request, [seed, top, ends]: [u64; 3], answer: Answer, sum: u64) -> [u64; 33] {
-    let (c, s) = (&q.codes, reference::settings(&q.codes));
+fn line(q: &Request, [seed, top, ends]: [u64; 3], answer: Answer, sum: u64) -> [u64; 34] {
+    let c = &q.codes;
+    let s = if c.mode == 0 { reference::settings(c) } else { matched::settings(c) };
     let small = |number: u32| u64::from(number);
     [
         small(c.depth), small(c.sampling), small(c.order), small(c.range), small(c.matrix),
-        small(c.packing), small(c.kr.to_bits()), small(c.kb.to_bits()),
+        small(c.packing), small(c.mode), small(c.kr.to_bits()), small(c.kb.to_bits()),
         small(q.width), small(q.height),
         small(q.y.stride), small(q.u.stride), small(q.v.stride), small(q.rgb.stride),
         q.y.len as u64, q.u.len as u64, q.v.len as u64, q.rgb.len as u64, seed, top, ends,
@@ -188,5 +202,40 @@ fn refusals<T: Summed>(list: &mut List) {
         let buffers: [&mut Extent; 4] = [&mut q.rgb, &mut q.y, &mut q.u, &mut q.v];
         buffers[n % 4].stride = stride;
         add::<T>(list, q, most::<T>(), false);
+    }
+}
+
+/// Matched mode: every setting of the named matrices and some of Custom, widths even and odd.
+fn matched_settings<T: Summed>(list: &mut List) {
+    for &depth in T::DEPTHS {
+        for (n, &packing) in (0..112).flat_map(|n| packings(depth).iter().map(move |p| (n, p))) {
+            let (sampling, order, range, matrix) = (n % 2, n / 2 % 4, n / 8 % 2, n / 16);
+            if matrix == 6 && order > 1 {
+                continue;
+            }
+            let random = &mut list.random;
+            let fits = |c: &Codes| (c.matrix, c.depth, c.range) == (matrix, depth, range);
+            let c = (0..).map(|_| usable::<T>(random)).find(fits).unwrap();
+            let c = Codes { sampling, order, packing, mode: 1, ..c };
+            let width = 2 * random.between(1, 6) - (order + range) % 2;
+            let slack = if random.below(2) == 0 { TIGHT } else { spare(random) };
+            let (height, (top, ends)) = (random.between(1, 12), random.pick(&fillings::<T>(&c)));
+            add::<T>(list, request(c, width, height, slack), top, ends);
+        }
+    }
+}
+
+/// Matched mode: a side of 0; each stride and each length one below its limit.
+fn matched_refusals<T: Summed>(list: &mut List) {
+    for n in 0..18 {
+        let random = &mut list.random;
+        let (c, mut slack) = (Codes { mode: 1, ..usable::<T>(random) }, spare(random));
+        let (mut width, height) = (random.between(1, 12), random.between(1, 12));
+        match n % 9 {
+            8 => width = 0,
+            fault if fault % 2 == 0 => slack[fault / 2].0 = -1,
+            fault => slack[fault / 2].1 = -1,
+        }
+        add::<T>(list, request(c, width, height, slack), most::<T>(), false);
     }
 }
