@@ -22,7 +22,8 @@
  * to a buffer of a call that runs.
  *
  * Stack. A conversion of uint16_t planes takes about 100 KiB of the calling thread's stack, in
- * either packing; every other function takes less than 16 KiB. No memory is allocated.
+ * either packing (a thread of 108 KiB that does nothing else is enough); every other function takes
+ * less than 16 KiB. No memory is allocated.
  *
  * Bounds. Proved in both modes for BT.601, BT.709 and BT.2020 (matrices 0 to 2): each component is
  * less than 8/5 codes (8 bits), 17/10 (10 bits) or 2 (12 bits) from the standard's exact equation,
