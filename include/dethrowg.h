@@ -22,7 +22,7 @@
  * to a buffer of a call that runs.
  *
  * Stack. A conversion of uint16_t planes takes about 100 KiB of the calling thread's stack, in
- * either packing (a thread of 108 KiB that does nothing else is enough); every other function takes
+ * either packing (a thread of 112 KiB that does nothing else is enough); every other function takes
  * less than 16 KiB. No memory is allocated.
  *
  * Bounds. Proved in both modes for BT.601, BT.709 and BT.2020 (matrices 0 to 2): each component is
@@ -144,9 +144,14 @@ enum dethrowg_number {
 };
 
 /* expected and received are the two values in parentheses above, else 0. Needed is
- * stride * (height - 1) + the elements of a row. Words for each number: examples/words.inc. */
+ * stride * (height - 1) + the elements of a row. Words for each number: examples/words.inc.
+ *
+ * below and above tell what was clipped: how many colour components (R, G and B of every pixel;
+ * alpha is not counted) lay below 0, and how many above the largest code of the depth, as whole
+ * numbers that were not yet clamped. One that was 0 or the largest code itself is not counted. Each is
+ * at most 3 * width * height, and 0 where number is not. */
 typedef struct {
-    uint64_t number, expected, received;
+    uint64_t number, expected, received, below, above;
 } dethrowg_answer;
 
 /* The settings that a conversion uses: the largest sample of the depth, the biases, and the
@@ -166,9 +171,9 @@ typedef struct {
  * with the depths of both element types, and 13. So an accepted conversion always has them. */
 dethrowg_settings_used dethrowg_coefficients(dethrowg_codes codes);
 
-/* Converts a whole picture. Asks 1 to 13. A refused call changes nothing; an accepted one writes
- * the pixels, the one at row r and column c from element rgb_stride * r + channels * c on, and
- * nothing else. */
+/* Converts a whole picture and counts what was clipped in it. Asks 1 to 13. A refused call changes
+ * nothing; an accepted one writes the pixels, the one at row r and column c from element
+ * rgb_stride * r + channels * c on, and nothing else. */
 dethrowg_answer dethrowg_yuv8_to_rgb(
     dethrowg_codes codes, dethrowg_image image,
     const uint8_t *y, size_t y_len, const uint8_t *u, size_t u_len,

@@ -1,6 +1,6 @@
-/* Converts a small 4:2:0 frame of bytes to RGBA, prints the settings used, the picture and one
- * finished row, then a refused call, and a pixel of SMPTE 240 in both modes. In the repository, after
- * `rt staticlib dethrowg`:
+/* Converts a small 4:2:0 frame of bytes to RGBA, prints the settings used, the picture, how much of
+ * it was clipped and one finished row, then a refused call, and a pixel of SMPTE 240 in both modes.
+ * In the repository, after `rt staticlib dethrowg`:
  *
  *   cc -std=c99 -Wall -I include examples/c/convert.c target/staticlib/libdethrowg.a -o target/convert_c
  *   target/convert_c
@@ -103,6 +103,8 @@ int main(void) {
     printf("picture:\n");
     for (int row = 0; row < HEIGHT; row++)
         print_pixels(rgb + row * STRIDE, WIDTH);
+    printf("clipped of %d components: %llu below 0, %llu above %u\n", 3 * WIDTH * HEIGHT,
+           (unsigned long long)a.below, (unsigned long long)a.above, s.max);
 
     dethrowg_part part = finished_row(rgb, sizeof rgb, 1);
     if (part.number != DETHROWG_ACCEPTED) {

@@ -1,6 +1,6 @@
 """Converts a 4:2:0 frame to RGB, from 8 bits, from 10 bits and from 10 bits in the high bits, and
-prints the settings used for each, the pictures, and a refused call. In the repository, after
-`rt staticlib dethrowg`:
+prints the settings used for each, the pictures, how much of them was clipped, and a refused call. In
+the repository, after `rt staticlib dethrowg`:
 
     python3 examples/python/convert.py
 """
@@ -41,12 +41,15 @@ class Image(Structure):
     ]
 
 
+NUMBER = [(name, c_uint64) for name in ("number", "expected", "received")]
+
+
 class Answer(Structure):
-    _fields_ = [(name, c_uint64) for name in ("number", "expected", "received")]
+    _fields_ = NUMBER + [("below", c_uint64), ("above", c_uint64)]
 
 
 class SettingsUsed(Structure):
-    _fields_ = Answer._fields_ + [
+    _fields_ = NUMBER + [
         (name, c_uint32) for name in ("max", "bias_y", "bias_uv", "y", "cr", "cb", "g1", "g2")
     ]
 
@@ -86,11 +89,12 @@ def accepted(answer):
 def settings_used(codes):
     """What a conversion with the same codes works with."""
     used = accepted(LIBRARY.dethrowg_coefficients(codes))
-    return {name: getattr(used, name) for name, _ in SettingsUsed._fields_[3:]}
+    return {name: getattr(used, name) for name, _ in SettingsUsed._fields_[len(NUMBER) :]}
 
 
 def convert(codes, width, height, y, u, v):
-    """The rows of the picture, each a list of width * channels values from 0 to 2**depth - 1.
+    """The rows of the picture, each a list of width * channels values from 0 to 2**depth - 1, and how
+    many of its components, alpha not counted, were below and above these values before clamping.
 
     The planes are sequences of samples without gaps between the rows; u is Cb, v is Cr.
     """
@@ -103,8 +107,11 @@ def convert(codes, width, height, y, u, v):
     y, u, v = ((element * len(plane))(*array(letter, plane)) for plane in (y, u, v))
     rgb = (element * (stride * height))()
     image = Image(width, height, width, chroma_width, chroma_width)
-    accepted(function(codes, image, y, len(y), u, len(u), v, len(v), rgb, len(rgb), stride))
-    return [rgb[stride * row : stride * (row + 1)] for row in range(height)]
+    answer = accepted(
+        function(codes, image, y, len(y), u, len(u), v, len(v), rgb, len(rgb), stride)
+    )
+    rows = [rgb[stride * row : stride * (row + 1)] for row in range(height)]
+    return rows, answer.below, answer.above
 
 
 def video(depth, packing=LOW_BITS):
@@ -115,9 +122,12 @@ def video(depth, packing=LOW_BITS):
 
 
 def show(title, codes, y, u, v):
-    print(f"{title}, settings used: {settings_used(codes)}")
-    for row in convert(codes, 4, 3, y, u, v):
+    used = settings_used(codes)
+    print(f"{title}, settings used: {used}")
+    rows, below, above = convert(codes, 4, 3, y, u, v)
+    for row in rows:
         print("".join(f"  {r:4} {g:4} {b:4}" for r, g, b in zip(row[0::3], row[1::3], row[2::3])))
+    print(f"clipped of {3 * 4 * 3} components: {below} below 0, {above} above {used['max']}")
 
 
 def main():

@@ -1,5 +1,6 @@
-//! Converts a small 4:2:0 frame of bytes to RGBA, prints the settings used, the picture and one
-//! finished row, then a refused call. In the repository, after `rt staticlib dethrowg`:
+//! Converts a small 4:2:0 frame of bytes to RGBA, prints the settings used, the picture, how much of
+//! it was clipped and one finished row, then a refused call. In the repository, after
+//! `rt staticlib dethrowg`:
 //!
 //!     rustc --edition 2021 -O -L target/staticlib -l static=dethrowg examples/rust/main.rs -o target/convert_rust
 //!     target/convert_rust
@@ -33,6 +34,8 @@ struct Answer {
     number: u64,
     expected: u64,
     received: u64,
+    below: u64,
+    above: u64,
 }
 
 #[repr(C)]
@@ -125,17 +128,19 @@ fn settings() -> SettingsUsed {
     unsafe { dethrowg_coefficients(CODES) }
 }
 
-/// Rust keeps `rgb` apart from the planes.
+/// How many components were below 0 and above the largest code. Rust keeps `rgb` apart from the
+/// planes.
 #[rustfmt::skip]
-fn convert(rgb: &mut [u8]) -> Result<(), String> {
-    let Answer { number, expected, received } = unsafe {
+fn convert(rgb: &mut [u8]) -> Result<(u64, u64), String> {
+    let Answer { number, expected, received, below, above } = unsafe {
         dethrowg_yuv8_to_rgb(
             CODES, IMAGE,
             Y.as_ptr(), Y.len(), U.as_ptr(), U.len(), V.as_ptr(), V.len(),
             rgb.as_mut_ptr(), rgb.len(), STRIDE,
         )
     };
-    accepted(number, expected, received)
+    accepted(number, expected, received)?;
+    Ok((below, above))
 }
 
 fn finished_row(rgb: &[u8], row: u32) -> Result<&[u8], String> {
@@ -166,12 +171,15 @@ fn print_pixels(pixels: &[u8]) {
 }
 
 fn main() -> Result<(), String> {
-    println!("settings used: {:?}", settings());
+    let used = settings();
+    println!("settings used: {used:?}");
 
     let mut rgb = [0; (STRIDE * HEIGHT) as usize];
-    convert(&mut rgb)?;
+    let (below, above) = convert(&mut rgb)?;
     println!("picture:");
     rgb.chunks(STRIDE as usize).for_each(print_pixels);
+    let components = 3 * WIDTH * HEIGHT;
+    println!("clipped of {components} components: {below} below 0, {above} above {}", used.max);
 
     println!("finished row 1:");
     print_pixels(finished_row(&rgb, 1)?);

@@ -6,13 +6,14 @@ use Prim.Native.Nat.{ℕ, _-_, _*_, _/_, _%_, _^_, _≤_, _<_}
 use lib.ListN.{length, take, getD}
 use Rattle.yuv_support.specs.declared.YuvSourceChannels.{YuvSourceChannels}
 use Rattle.yuv_support.specs.declared.YuvMode.{YuvMode}
+use Rattle.yuv_support.specs.declared.Clipped.{Clipped}
 use Rattle.yuv_support.specs.declared.Settings.{Settings}
 use Rattle.yuv_support.specs.Blend.{Frame, chromaWidth, chromaHeight}
 use Rattle.yuv_support.specs.Picture.{channelsOf}
 use Rattle.yuv_support.specs.Questions.{partOf}
 use Rattle.images.specs.declared.ChromaRows.{ChromaRows}
 use Rattle.numerics.specs.declared.Kernel.{Kernel}
-use Rattle.kernel.specs.Ordered.{orderedValue}
+use Rattle.kernel.specs.Ordered.{orderedValue, orderedClipped}
 
 -- elements divided by 2^shift, rounding down
 abbrev pub dividedBy : ℕ → List ℕ → List ℕ
@@ -39,6 +40,13 @@ heldValue k order mode width luma us vs p x =
     orderedValue k order mode width (take width luma)
     (halfOf (p .columns) us (p .near)) (halfOf (p .columns) us (p .other))
     (halfOf (p .columns) vs (p .near)) (halfOf (p .columns) vs (p .other)) x
+
+-- what is clipped in it
+abbrev pub heldClipped : Kernel → YuvSourceChannels → YuvMode → ℕ → List ℕ → List ℕ → List ℕ → ChromaRows → Clipped
+heldClipped k order mode width luma us vs p =
+    orderedClipped k order mode width (take width luma)
+    (halfOf (p .columns) us (p .near)) (halfOf (p .columns) us (p .other))
+    (halfOf (p .columns) vs (p .near)) (halfOf (p .columns) vs (p .other))
 
 -- they are long enough for it
 pub record HeldFits (order : YuvSourceChannels) (row luma us vs : List ℕ) (p : ChromaRows) (width : ℕ) : Type 0 where

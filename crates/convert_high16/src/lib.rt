@@ -6,12 +6,14 @@ ghost use lib.ListN.{length, take, getD};
 ghost use Rattle.yuv_support.specs.declared.YuvBytesPacking.the-variants.{MostSignificantBytes};
 ghost use Rattle.yuv_support.specs.Blend.{frameOf};
 ghost use Rattle.yuv_support.specs.Picture.{channelsOf, rowOf, elementOf, band};
+ghost use Rattle.yuv_support.specs.Counts.{clippedRow, clippedIn};
 ghost use Rattle.yuv_support.specs.Questions.{needed};
 ghost use Rattle.numerics.specs.Kernel.{Words};
 ghost use Rattle.kernel.specs.Ordered.{Ready};
-ghost use Rattle.convert_high16.specs.Held.{dividedBy, Held, heldValue, HeldFits, Buffers};
+ghost use Rattle.convert_high16.specs.Held.{dividedBy, Held, heldValue, heldClipped, HeldFits, Buffers};
 use images::ChromaRows;
 use numerics::Kernel;
+use yuv_support::Clipped;
 use yuv_support::Settings;
 use yuv_support::YuvMode;
 use yuv_support::YuvPlanarImage;
@@ -90,15 +92,16 @@ fn interpolate_held(
     order: YuvSourceChannels,
     mode: YuvMode,
     k: Kernel,
-)
+) -> Clipped
     requires { ⌜ Words k × HeldFits order (now row) (now luma) (now us) (now vs) p width ⌝ }
     ensures { λ _. ⌜ now (row .exit) ≡ rowOf (λ r. heldValue k order mode width (now (luma .entry)) (now (us .entry)) (now (vs .entry)) p) 0 (now (row .entry)) ⌝ }
+    ensures { λ r. ⌜ r ≡ heldClipped k order mode width (now (luma .entry)) (now (us .entry)) (now (vs .entry)) p ⌝ }
 {
     let un = images::row16(us, 8192, p.near % 2, p.columns);
     let uf = images::row16(us, 8192, p.other % 2, p.columns);
     let vn = images::row16(vs, 8192, p.near % 2, p.columns);
     let vf = images::row16(vs, 8192, p.other % 2, p.columns);
-    convert16::interpolate_row(row, &luma[..width], un, uf, vn, vf, width, order, mode, k);
+    convert16::interpolate_row(row, &luma[..width], un, uf, vn, vf, width, order, mode, k)
 }
 
 // Row r of the picture, into a part that is as long as the row.
@@ -116,11 +119,12 @@ fn convert_row(
     vs: &mut [u16],
     u_held: &mut [u32],
     v_held: &mut [u32],
-)
+) -> Clipped
     requires { ⌜ Words k × Ready s (frameOf image (now y) (now u) (now v)) k × (s .packing ≡ MostSignificantBytes) ⌝ }
     requires { ⌜ (r < image .height) × (length (now row) ≡ image .width * channelsOf (s .order)) ⌝ }
     requires { ⌜ Buffers s (frameOf image (now y) (now u) (now v)) (now luma) (now us) (now vs) (now «u_held») (now «v_held») ⌝ }
     ensures { λ _. ⌜ now (row .exit) ≡ rowOf (elementOf s (frameOf image (now (y .entry)) (now (u .entry)) (now (v .entry)))) r (now (row .entry)) ⌝ }
+    ensures { λ c. ⌜ c ≡ clippedRow s (frameOf image (now (y .entry)) (now (u .entry)) (now (v .entry))) r ⌝ }
     ensures { λ _. ⌜ Buffers s (frameOf image (now (y .entry)) (now (u .entry)) (now (v .entry))) (now (luma .exit)) (now (us .exit)) (now (vs .exit)) (now («u_held» .exit)) (now («v_held» .exit)) ⌝ }
 {
     let order = s.order;
@@ -132,7 +136,7 @@ fn convert_row(
     hold_both(v, image.v_stride, shift, p, vs, v_held);
     let lent = images::row16(y, image.y_stride, r, image.width);
     unpack(luma, lent, shift);
-    interpolate_held(row, luma, us, vs, p, image.width as usize, order, mode, k);
+    interpolate_held(row, luma, us, vs, p, image.width as usize, order, mode, k)
 }
 
 // `count` rows from row `first` on. All else in the destination is kept.
@@ -147,10 +151,11 @@ pub fn convert_rows(
     k: Kernel,
     first: u32,
     count: u32,
-)
+) -> Clipped
     requires { ⌜ Words k × Ready s (frameOf image (now y) (now u) (now v)) k × (s .packing ≡ MostSignificantBytes) ⌝ }
     requires { ⌜ (first + count ≤ image .height) × (image .width * channelsOf (s .order) ≤ «rgb_stride») × (needed «rgb_stride» (image .width * channelsOf (s .order)) (image .height) ≤ length (now rgb)) ⌝ }
     ensures { λ _. ⌜ now (rgb .exit) ≡ band s (frameOf image (now (y .entry)) (now (u .entry)) (now (v .entry))) «rgb_stride» first count (now (rgb .entry)) ⌝ }
+    ensures { λ c. ⌜ c ≡ clippedIn s (frameOf image (now (y .entry)) (now (u .entry)) (now (v .entry))) first count ⌝ }
 {
     let order = s.order;
     let n = images::row_length(image.width, order) as usize;
@@ -162,10 +167,11 @@ pub fn convert_rows(
     // no row has the number 16384
     let mut u_held = [16384u32; 2];
     let mut v_held = [16384u32; 2];
+    let mut clipped = Clipped { below: 0, above: 0 };
     let mut r = first;
     while r < end {
         let at = stride * r as usize;
-        convert_row(
+        let x = convert_row(
             &mut rgb[at..at + n],
             y,
             u,
@@ -180,6 +186,8 @@ pub fn convert_rows(
             &mut u_held,
             &mut v_held,
         );
+        clipped = numerics::both(clipped, x);
         r += 1;
     }
+    clipped
 }

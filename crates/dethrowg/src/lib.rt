@@ -3,13 +3,13 @@
 ghost use mathlib.Core.Path.{_≡_};
 ghost use Rattle.yuv_support.specs.Settings.{depths8, depths16};
 ghost use Rattle.yuv_support.specs.Distance.{AnySamples, WithinIfLow};
-ghost use Rattle.yuv_support.specs.Conversion.{answerTo, destinationAfter, Demand3After};
-ghost use Rattle.yuv_error.specs.Told.{asTold};
+ghost use Rattle.yuv_support.specs.Conversion.{answerTo, clippedAfter, destinationAfter, Demand3After};
+ghost use Rattle.yuv_error.specs.Told.{asReport};
 ghost use Rattle.settings_used.specs.Used.{settingsUsedOf};
 ghost use Rattle.row_readers.specs.Readers.{extentOf, rowPlace, chromaRowPlace};
 use row_readers::Part;
 use settings_used::SettingsUsed;
-use yuv_error::Told;
+use yuv_error::Report;
 use yuv_support::Codes;
 use yuv_support::YuvPlanarImage;
 
@@ -31,12 +31,12 @@ pub extern "C" fn dethrowg_yuv8_to_rgb(
     v: &[u8],
     rgb: &mut [u8],
     rgb_stride: u32,
-) -> Told
-    ensures { λ r. ⌜ r ≡ asTold (answerTo depths8 codes image (now (y .entry)) (now (u .entry)) (now (v .entry)) «rgb_stride» (now (rgb .entry))) ⌝ }
+) -> Report
+    ensures { λ r. ⌜ r ≡ asReport (answerTo depths8 codes image (now (y .entry)) (now (u .entry)) (now (v .entry)) «rgb_stride» (now (rgb .entry))) (clippedAfter depths8 codes image (now (y .entry)) (now (u .entry)) (now (v .entry)) «rgb_stride» (now (rgb .entry))) ⌝ }
     ensures { λ r. ⌜ now (rgb .exit) ≡ destinationAfter depths8 codes image (now (y .entry)) (now (u .entry)) (now (v .entry)) «rgb_stride» (now (rgb .entry)) ⌝ }
     ensures { λ r. ⌜ Demand3After AnySamples depths8 codes image (now (y .entry)) (now (u .entry)) (now (v .entry)) «rgb_stride» (now (rgb .entry)) (now (rgb .exit)) ⌝ }
 {
-    yuv_error::told_of(yuv_to_rgba_bilinear::yuv_to_rgbx_bilinear(
+    yuv_error::report_of(yuv_to_rgba_bilinear::yuv_to_rgbx_bilinear(
         codes,
         image,
         y,
@@ -57,12 +57,12 @@ pub extern "C" fn dethrowg_yuv16_to_rgb(
     v: &[u16],
     rgb: &mut [u16],
     rgb_stride: u32,
-) -> Told
-    ensures { λ r. ⌜ r ≡ asTold (answerTo depths16 codes image (now (y .entry)) (now (u .entry)) (now (v .entry)) «rgb_stride» (now (rgb .entry))) ⌝ }
+) -> Report
+    ensures { λ r. ⌜ r ≡ asReport (answerTo depths16 codes image (now (y .entry)) (now (u .entry)) (now (v .entry)) «rgb_stride» (now (rgb .entry))) (clippedAfter depths16 codes image (now (y .entry)) (now (u .entry)) (now (v .entry)) «rgb_stride» (now (rgb .entry))) ⌝ }
     ensures { λ r. ⌜ now (rgb .exit) ≡ destinationAfter depths16 codes image (now (y .entry)) (now (u .entry)) (now (v .entry)) «rgb_stride» (now (rgb .entry)) ⌝ }
     ensures { λ r. ⌜ Demand3After WithinIfLow depths16 codes image (now (y .entry)) (now (u .entry)) (now (v .entry)) «rgb_stride» (now (rgb .entry)) (now (rgb .exit)) ⌝ }
 {
-    yuv_error::told_of(yuv_p16_to_rgba16_bilinear::yuv16_to_rgbx_bilinear(
+    yuv_error::report_of(yuv_p16_to_rgba16_bilinear::yuv16_to_rgbx_bilinear(
         codes,
         image,
         y,

@@ -7,14 +7,16 @@ use Prim.Native.Nat.{ℕ}
 use borrow.Author.Tests.{eqb-true}
 use lib.Dec.{T, eqb}
 use Rattle.yuv_support.specs.declared.Codes.{Codes}
+use Rattle.yuv_support.specs.declared.Clipped.{Clipped}
 use Rattle.yuv_support.specs.declared.Settings.{Settings}
 use Rattle.yuv_support.specs.declared.YuvPlanarImage.{YuvPlanarImage}
 use Rattle.yuv_support.specs.Settings.{among, depths}
 use Rattle.yuv_support.specs.Blend.{Frame, frameOf}
 use Rattle.yuv_support.specs.Picture.{picture}
+use Rattle.yuv_support.specs.Counts.{clippedIn, unclipped}
 use Rattle.yuv_support.specs.Questions.{Verdict, decoded}
 use Rattle.yuv_support.specs.Distance.{WithinDepth}
-use Rattle.yuv_support.specs.Conversion.{answerTo, destinationAfter, Demand3After}
+use Rattle.yuv_support.specs.Conversion.{answerTo, clippedAfter, destinationAfter, Demand3After}
 use Rattle.yuv_support.proofs.Conversion.{accepted-call, demand3-met}
 use Rattle.kernel.specs.Kernels.{kernelOf}
 use Rattle.kernel.specs.Ordered.{Ready}
@@ -43,23 +45,27 @@ module _ (known : List ℕ) (within : (d : ℕ) → T (among d known) → T (amo
   pub number-zero : eqb (a .number) 0 ≡ true → answerTo known codes image y u v stride rgb .number ≡ 0
   number-zero t = rw e at (eqb-true (a .number) 0 t)
 
-  -- `Asked` is what demand 3 asks of the samples, and `enough` that they then lie within the depth
+  -- `Asked` is what demand 3 asks of the samples, and `enough` that they then lie within the depth; `given` makes the answer that is handed
+  -- out of the verdict and the counts
   module _ (Asked : Settings → Frame → Type 0)
-      (enough : T (among (codes .depth) known) → Asked (decoded codes) (frameOf image y u v) → WithinDepth (decoded codes) (frameOf image y u v)) where
-    promised : (out : List ℕ) → out ≡ destinationAfter known codes image y u v stride rgb
-        → (a ≡ answerTo known codes image y u v stride rgb)
+      (enough : T (among (codes .depth) known) → Asked (decoded codes) (frameOf image y u v) → WithinDepth (decoded codes) (frameOf image y u v))
+      (Answer : Type 0) (given : Verdict → Clipped → Answer) where
+    promised : (clipped : Clipped) → clipped ≡ clippedAfter known codes image y u v stride rgb
+        → (out : List ℕ) → out ≡ destinationAfter known codes image y u v stride rgb
+        → (given a clipped ≡ given (answerTo known codes image y u v stride rgb) (clippedAfter known codes image y u v stride rgb))
         × ((out ≡ destinationAfter known codes image y u v stride rgb) × Demand3After Asked known codes image y u v stride rgb out)
-    promised out o =
-        (e, (o, subst⁻¹ (λ (l : List ℕ). Demand3After Asked known codes image y u v stride rgb l) o (demand3-met known within codes image y u v stride rgb Asked enough)))
+    promised clipped c out o =
+        (rw (e, c), (o, subst⁻¹ (λ (l : List ℕ). Demand3After Asked known codes image y u v stride rgb l) o (demand3-met known within codes image y u v stride rgb Asked enough)))
 
-    pub converted : eqb (a .number) 0 ≡ true → (out : List ℕ) → out ≡ picture (decoded codes) (frameOf image y u v) stride rgb
-        → (a ≡ answerTo known codes image y u v stride rgb)
+    pub converted : eqb (a .number) 0 ≡ true → (clipped : Clipped) → clipped ≡ clippedIn (decoded codes) (frameOf image y u v) 0 (image .height)
+        → (out : List ℕ) → out ≡ picture (decoded codes) (frameOf image y u v) stride rgb
+        → (given a clipped ≡ given (answerTo known codes image y u v stride rgb) (clippedAfter known codes image y u v stride rgb))
         × ((out ≡ destinationAfter known codes image y u v stride rgb) × Demand3After Asked known codes image y u v stride rgb out)
-    unfolding destinationAfter
-    converted t out o = promised out (o ∙ rw (rw e at t))
+    unfolding clippedAfter destinationAfter
+    converted t clipped c out o = promised clipped (c ∙ rw (rw e at t)) out (o ∙ rw (rw e at t))
 
     pub untouched : eqb (a .number) 0 ≡ false
-        → (a ≡ answerTo known codes image y u v stride rgb)
+        → (given a unclipped ≡ given (answerTo known codes image y u v stride rgb) (clippedAfter known codes image y u v stride rgb))
         × ((rgb ≡ destinationAfter known codes image y u v stride rgb) × Demand3After Asked known codes image y u v stride rgb rgb)
-    unfolding destinationAfter
-    untouched t = promised rgb (rw (rw e at t))
+    unfolding clippedAfter destinationAfter
+    untouched t = promised unclipped (rw (rw e at t)) rgb (rw (rw e at t))

@@ -17,6 +17,7 @@ use Rattle.yuv_support.specs.Settings.{among, depths16, unpacked, samplesOf}
 use Rattle.yuv_support.specs.Coefficients.{coefficientsOf}
 use Rattle.yuv_support.specs.Blend.{Frame, Chroma, Cb, Cr, Rows, one, two, Place, left, right, tail, sixteenths, rowsOf, placeOf, nearRow, farRow, chromaWidth, chromaHeight, sample, lumaAt, chromaSample, chroma16, tailOf, rounded}
 use Rattle.yuv_support.specs.Picture.{channelsOf, rowOf, elementOf}
+use Rattle.yuv_support.specs.Counts.{clippedRow}
 use Rattle.yuv_support.specs.Questions.{needed, partOf}
 use Rattle.yuv_support.proofs.Depths.{by-depth}
 use Rattle.yuv_support.proofs.Packing.{unpacked-le, samples-length, samples-at, low-samples}
@@ -28,8 +29,8 @@ use Rattle.numerics.specs.declared.Kernel.{Kernel}
 use Rattle.numerics.specs.Kernel.{Bytes, Words}
 use Rattle.numerics.specs.Row.{at}
 use Rattle.kernel.specs.Kernels.{redFirst, offsetOf, mostOf, arranged, kernelOf}
-use Rattle.kernel.specs.Ordered.{pick, lastOf, orderedValue, OrderedFits, Ready}
-use Rattle.kernel.proofs.Rows.{row-is}
+use Rattle.kernel.specs.Ordered.{pick, lastOf, orderedValue, orderedClipped, OrderedFits, Ready}
+use Rattle.kernel.proofs.Rows.{row-is, clipped-is}
 
 -- one chroma row has the weights of two equal ones
 one-as-two : (mode : YuvMode) (ch : Chroma) (place : Place) (a b c e : ℕ) → sixteenths mode ch one place a b c e ≡ sixteenths mode ch two place a b a b
@@ -139,53 +140,60 @@ module _ {s : Settings} {f : Frame} {k : Kernel} (ready : Ready s f k) (row : �
         as-long : (stride r n : ℕ) (plane : List ℕ) {m : ℕ} → stride * r + n ≤ length plane → n ≡ m → m ≤ length (samplesOf (s .packing) (s .depth) (partOf stride r n plane))
         as-long stride r n plane h e = omega (arith, part-length stride r n plane h, samples-length (s .packing) (s .depth) (partOf stride r n plane))
 
-    -- the row that the row functions make of the parts is the row of the definition
-    pub row-of-parts : ((i : ℕ) → getD (f .u) i 0 ≤ mostOf (s .depth)) → ((i : ℕ) → getD (f .v) i 0 ≤ mostOf (s .depth))
+  -- what the row functions make of the parts is the row of the definition, and what they tell is what is clipped in it
+  module _ {y un uf vn vf : List ℕ} (parts : Parts s f row p y un uf vn vf) (hu : (i : ℕ) → getD (f .u) i 0 ≤ mostOf (s .depth)) (hv : (i : ℕ) → getD (f .v) i 0 ≤ mostOf (s .depth)) where
+    small : (ch : Chroma) (r i : ℕ) → chromaSample s f ch r i ≤ mostOf (s .depth)
+    small Cb r i = le-trans (unpacked-le (s .packing) (s .depth) _) (hu (f .u-stride * r + i))
+    small Cr r i = le-trans (unpacked-le (s .packing) (s .depth) _) (hv (f .v-stride * r + i))
+
+    blended : (ch : Chroma) (column : ℕ) → chroma16 s f ch row column
+        ≡ sixteenths (s .mode) ch two (placeOf (f .width) column) (chromaSample s f ch (p .near) (column / 2)) (chromaSample s f ch (p .near) (column / 2 + 1))
+        (chromaSample s f ch (p .other) (column / 2)) (chromaSample s f ch (p .other) (column / 2 + 1))
+    blended ch column = rw is (blended-as-two s f ch row column)
+
+    abbrev nears : Chroma → List ℕ
+    nears ch = pick ch un vn
+
+    abbrev fars : Chroma → List ℕ
+    fars ch = pick ch uf vf
+
+    abbrev lasts : Chroma → ℕ
+    lasts ch = lastOf (s .mode) (f .width) ch (nears ch) (fars ch)
+
+    -- sample i of a part of a plane
+    sample-at : {part : List ℕ} (stride r n : ℕ) (plane : List ℕ) → part ≡ samplesOf (s .packing) (s .depth) (partOf stride r n plane)
+        → (i : ℕ) → i < n → at part i ≡ sample s plane stride r i
+    sample-at stride r n plane e i h =
+        rw e (samples-at (s .packing) (s .depth) (partOf stride r n plane) i ∙ ap (unpacked (s .packing) (s .depth)) (part-at stride r n plane i h))
+
+    luma-at : (i : ℕ) → i < f .width → at y i ≡ lumaAt s f row i
+    luma-at = sample-at (f .y-stride) row (f .width) (f .y) (parts .y-is)
+
+    near-at : (ch : Chroma) (i : ℕ) → i < chromaWidth (f .width) → at (nears ch) i ≡ chromaSample s f ch (p .near) i
+    near-at Cb i h = sample-at (f .u-stride) (p .near) (p .columns) (f .u) (parts .u-near) i (rw columns-are h)
+    near-at Cr i h = sample-at (f .v-stride) (p .near) (p .columns) (f .v) (parts .v-near) i (rw columns-are h)
+
+    far-at : (ch : Chroma) (i : ℕ) → i < chromaWidth (f .width) → at (fars ch) i ≡ chromaSample s f ch (p .other) i
+    far-at Cb i h = sample-at (f .u-stride) (p .other) (p .columns) (f .u) (parts .u-other) i (rw columns-are h)
+    far-at Cr i h = sample-at (f .v-stride) (p .other) (p .columns) (f .v) (parts .v-other) i (rw columns-are h)
+
+    last-at : (ch : Chroma) → lasts ch ≡ rounded (tailOf (s .mode) ch (chromaSample s f ch (p .near) (chromaWidth (f .width) - 1)) (chromaSample s f ch (p .other) (chromaWidth (f .width) - 1)))
+    last-at ch =
+        let w = ready .width-least in
+        rw (near-at ch (chromaWidth (f .width) - 1) (omega arith), far-at ch (chromaWidth (f .width) - 1) (omega arith))
+
+    pub row-of-parts : (xs : List ℕ) → length xs ≡ f .width * channelsOf (s .order)
         → rowOf (λ r. orderedValue k (s .order) (s .mode) (f .width) y un uf vn vf) 0 xs ≡ rowOf (elementOf s f) row xs
     unfolding orderedValue
-    row-of-parts hu hv =
+    row-of-parts xs l =
         rw (ready .kernel)
         (row-is s f (ready .known) (ready .weights) small row (p .near) (p .other) blended y nears fars lasts luma-at near-at far-at last-at xs l)
-      where
-        small : (ch : Chroma) (r i : ℕ) → chromaSample s f ch r i ≤ mostOf (s .depth)
-        small Cb r i = le-trans (unpacked-le (s .packing) (s .depth) _) (hu (f .u-stride * r + i))
-        small Cr r i = le-trans (unpacked-le (s .packing) (s .depth) _) (hv (f .v-stride * r + i))
 
-        blended : (ch : Chroma) (column : ℕ) → chroma16 s f ch row column
-            ≡ sixteenths (s .mode) ch two (placeOf (f .width) column) (chromaSample s f ch (p .near) (column / 2)) (chromaSample s f ch (p .near) (column / 2 + 1))
-            (chromaSample s f ch (p .other) (column / 2)) (chromaSample s f ch (p .other) (column / 2 + 1))
-        blended ch column = rw is (blended-as-two s f ch row column)
-
-        nears : Chroma → List ℕ
-        nears ch = pick ch un vn
-
-        fars : Chroma → List ℕ
-        fars ch = pick ch uf vf
-
-        lasts : Chroma → ℕ
-        lasts ch = lastOf (s .mode) (f .width) ch (nears ch) (fars ch)
-
-        -- sample i of a part of a plane
-        sample-at : {part : List ℕ} (stride r n : ℕ) (plane : List ℕ) → part ≡ samplesOf (s .packing) (s .depth) (partOf stride r n plane)
-            → (i : ℕ) → i < n → at part i ≡ sample s plane stride r i
-        sample-at stride r n plane e i h =
-            rw e (samples-at (s .packing) (s .depth) (partOf stride r n plane) i ∙ ap (unpacked (s .packing) (s .depth)) (part-at stride r n plane i h))
-
-        luma-at : (i : ℕ) → i < f .width → at y i ≡ lumaAt s f row i
-        luma-at = sample-at (f .y-stride) row (f .width) (f .y) (parts .y-is)
-
-        near-at : (ch : Chroma) (i : ℕ) → i < chromaWidth (f .width) → at (nears ch) i ≡ chromaSample s f ch (p .near) i
-        near-at Cb i h = sample-at (f .u-stride) (p .near) (p .columns) (f .u) (parts .u-near) i (rw columns-are h)
-        near-at Cr i h = sample-at (f .v-stride) (p .near) (p .columns) (f .v) (parts .v-near) i (rw columns-are h)
-
-        far-at : (ch : Chroma) (i : ℕ) → i < chromaWidth (f .width) → at (fars ch) i ≡ chromaSample s f ch (p .other) i
-        far-at Cb i h = sample-at (f .u-stride) (p .other) (p .columns) (f .u) (parts .u-other) i (rw columns-are h)
-        far-at Cr i h = sample-at (f .v-stride) (p .other) (p .columns) (f .v) (parts .v-other) i (rw columns-are h)
-
-        last-at : (ch : Chroma) → lasts ch ≡ rounded (tailOf (s .mode) ch (chromaSample s f ch (p .near) (chromaWidth (f .width) - 1)) (chromaSample s f ch (p .other) (chromaWidth (f .width) - 1)))
-        last-at ch =
-            let w = ready .width-least in
-            rw (near-at ch (chromaWidth (f .width) - 1) (omega arith), far-at ch (chromaWidth (f .width) - 1) (omega arith))
+    pub clipped-of-parts : orderedClipped k (s .order) (s .mode) (f .width) y un uf vn vf ≡ clippedRow s f row
+    unfolding orderedClipped
+    clipped-of-parts =
+        rw (ready .kernel)
+        (clipped-is s f (ready .known) (ready .weights) small row (p .near) (p .other) blended y nears fars lasts luma-at near-at far-at last-at)
 
 -- ---- the largest sample of a kernel's width
 
@@ -198,10 +206,10 @@ module _ {s : Settings} {f : Frame} {k : Kernel} (ready : Ready s f k) where
       of-arranged true = refl
       of-arranged false = refl
 
-  pub bytes-most : Bytes k → mostOf (s .depth) ≡ 255
+  pub bytes-most : Bytes k → mostOf (s .depth) ≡ 4095
   unfolding offsetOf mostOf
   bytes-most b =
-      by-depth (λ d. offsetOf d ≡ 2048 → mostOf d ≡ 255) (λ e. refl) (λ e. absurd (omega arith)) (λ e. absurd (omega arith))
+      by-depth (λ d. offsetOf d ≡ 32511 → mostOf d ≡ 4095) (λ e. refl) (λ e. absurd (omega arith)) (λ e. absurd (omega arith))
       (s .depth) (ready .known) (sym offset-is ∙ b .offset)
 
   pub words-most : Words k → mostOf (s .depth) ≡ 65535

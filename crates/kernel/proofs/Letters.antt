@@ -7,6 +7,7 @@ use Prim.Native.Nat.{ℕ, zero, suc, _+_, _-_, _*_, _/_, _≤_, _<_, min}
 use native.Mathlib.Nat.{mul-le-mul-left}
 use native.Mathlib.Omega.{arith}
 use lib.Dec.{T}
+use lib.IntN.{ℤ}
 use lib.ListN.{getD}
 use Rattle.yuv_support.specs.declared.YuvRange.{YuvRange}
 use Rattle.yuv_support.specs.declared.YuvSourceChannels.{YuvSourceChannels}
@@ -15,14 +16,15 @@ use Rattle.yuv_support.specs.declared.CbCrInverseTransform.{CbCrInverseTransfor
 use Rattle.yuv_support.specs.declared.Settings.{Settings}
 use Rattle.yuv_support.specs.Settings.{among, depths, maxOf, biasY, biasC}
 use Rattle.yuv_support.specs.Coefficients.{coefficientsOf, usable}
-use Rattle.yuv_support.specs.Blend.{Frame, Cb, Cr, lumaAt, chroma16, rounded}
+use Rattle.yuv_support.specs.Blend.{Frame, Chroma, Cb, Cr, lumaAt, chroma16, rounded}
 use Rattle.yuv_support.specs.Component.{Component, R, G, B, sumOf, quotient, clamp, quotientOf, quotientAt, componentAt}
+use Rattle.yuv_support.specs.Counts.{isBelow, isAbove, countAt}
 use Rattle.yuv_support.specs.Picture.{alpha, lettersOf, channelsOf, valueOf}
-use Rattle.yuv_support.proofs.Sign.{red-sum, green-sum, blue-sum}
+use Rattle.yuv_support.proofs.Sign.{Is, added, taken, sum-is, red-sum, green-sum, blue-sum, quotient-below, quotient-above}
 use Rattle.inverse_transform.specs.Narrow.{Narrow}
 use Rattle.inverse_transform.proofs.Narrow.{narrow}
 use Rattle.numerics.specs.declared.Kernel.{Kernel}
-use Rattle.numerics.specs.Kernel.{firstOf, greenOf, thirdOf, letterOf}
+use Rattle.numerics.specs.Kernel.{belowOf, aboveOf, firstSum, greenSum, thirdSum, firstOf, greenOf, thirdOf, letterOf, belowAt, aboveAt}
 use Rattle.kernel.specs.Kernels.{redFirst, offsetOf, mostOf, firstChroma, thirdChroma, arranged, kernelOf}
 use Rattle.kernel.proofs.Room.{Room, room}
 
@@ -35,6 +37,17 @@ green-out : (o y g b t m : ℕ) → b ≤ o * 8192 + 4096 + g → t ≤ o * 8192
     → min ((y + (o * 8192 + 4096 + g - b) - t) / 8192 - o) m ≡ min ((y + g + 4096 - (b + t)) / 8192) m
 green-out o y g b t m h k =
     ap (λ (q : ℕ). min q m) (let e : (y + (o * 8192 + 4096 + g - b) - t) / 8192 - o ≡ (y + g + 4096 - (b + t)) / 8192 = omega arith in e)
+
+-- the same without the division
+outer-kept : (o s n : ℕ) → n ≤ o * 8192 + 4096 → s + (o * 8192 + 4096 - n) + n ≡ s + o * 8192 + 4096
+outer-kept o s n h = omega arith
+
+inner-kept : (o y g g₁ g₂ b t₁ t₂ : ℕ) → g ≡ g₁ + g₂ → b ≤ o * 8192 + 4096 + g → t₁ + t₂ ≤ o * 8192 + 4096 + g - b
+    → y + (o * 8192 + 4096 + g - b) - (t₁ + t₂) + (b + t₁ + t₂) ≡ y + g₁ + g₂ + o * 8192 + 4096
+inner-kept o y g g₁ g₂ b t₁ t₂ e h k = omega arith
+
+other-way : (a b c : ℕ) → a + b + c ≡ c + b + a
+other-way a b c = omega arith
 
 module _ (d : ℕ) (r : YuvRange) (t : CbCrInverseTransform) (known : T (among d depths)) (n : Narrow t) (y cb cr : ℕ) (hb : cb ≤ mostOf d) (hr : cr ≤ mostOf d) where
   -- the component of coefficients t
@@ -78,6 +91,44 @@ module _ (d : ℕ) (r : YuvRange) (t : CbCrInverseTransform) (known : T (among d
       let a : (t .g2 + t .g1) * biasC d ≡ (t .g1 + t .g2) * biasC d = omega arith in
       let b : t .g2 * cb + t .g1 * cr ≡ t .g1 * cr + t .g2 * cb = omega arith in
       rw (a, b)
+
+  -- ---- what the kernel's sums tell of the quotients, `told` being asked of a sum and `test` of a quotient
+
+  abbrev quotientFor : Component → ℤ
+  quotientFor c = quotient (sumOf t (biasY d r) (biasC d) c y cb cr)
+
+  -- a sum is the offset, and 4,096, above what it stands for
+  red-kept : firstSum (arranged d r true t) y cr + taken t (biasY d r) (biasC d) R cb cr ≡ added t (biasC d) R y cb cr + offsetOf d * 8192 + 4096
+  red-kept = outer-kept (offsetOf d) (t .y * y + t .cr * cr) (t .y * biasY d r + t .cr * biasC d) (red-room .first)
+
+  blue-kept : thirdSum (arranged d r true t) y cb + taken t (biasY d r) (biasC d) B cb cr ≡ added t (biasC d) B y cb cr + offsetOf d * 8192 + 4096
+  blue-kept = outer-kept (offsetOf d) (t .y * y + t .cb * cb) (t .y * biasY d r + t .cb * biasC d) (red-room .third)
+
+  green-kept : greenSum (arranged d r true t) y cr cb + taken t (biasY d r) (biasC d) G cb cr ≡ added t (biasC d) G y cb cr + offsetOf d * 8192 + 4096
+  green-kept =
+      let m = red-room in
+      let f = m .first in
+      let g = m .green in
+      let k = taken-le in
+      inner-kept (offsetOf d) (t .y * y) ((t .g1 + t .g2) * biasC d) (t .g1 * biasC d) (t .g2 * biasC d) (t .y * biasY d r) (t .g1 * cr) (t .g2 * cb)
+      (omega arith) (omega arith) (omega arith)
+
+  module _ (told : ℕ → ℕ) (test : ℤ → ℕ)
+      (is : (sum a b : ℕ) (z : ℤ) → sum + b ≡ a + offsetOf d * 8192 + 4096 → Is a b z → told sum ≡ test (quotient z)) where
+    -- of the three letters, blue or red first
+    abbrev tolds : Bool → ℕ → ℕ → ℕ
+    tolds first p q = told (firstSum (arranged d r first t) y p) + told (greenSum (arranged d r first t) y p q) + told (thirdSum (arranged d r first t) y q)
+
+    pub told-red-first : tolds true cr cb ≡ test (quotientFor R) + test (quotientFor G) + test (quotientFor B)
+    told-red-first =
+        rw (is _ _ _ _ red-kept (sum-is t (biasY d r) (biasC d) R y cb cr), is _ _ _ _ green-kept (sum-is t (biasY d r) (biasC d) G y cb cr), is _ _ _ _ blue-kept (sum-is t (biasY d r) (biasC d) B y cb cr))
+
+    pub told-blue-first : tolds false cb cr ≡ test (quotientFor R) + test (quotientFor G) + test (quotientFor B)
+    told-blue-first =
+        let a : (t .g2 + t .g1) * biasC d ≡ (t .g1 + t .g2) * biasC d = omega arith in
+        let b : t .g2 * cb + t .g1 * cr ≡ t .g1 * cr + t .g2 * cb = omega arith in
+        rw (a, b) (other-way (told (thirdSum (arranged d r true t) y cb)) (told (greenSum (arranged d r true t) y cr cb)) (told (firstSum (arranged d r true t) y cr)))
+        ∙ told-red-first
 
 -- ---- the letters of a pixel
 
@@ -150,3 +201,44 @@ module _ (s : Settings) (f : Frame) (known : T (among (s .depth) depths)) (u : T
       ≡ valueOf s f row column (getD (lettersOf (s .order)) j alpha)
   unfolding letterFor kernelOf
   letter-is j h = of-order (s .order) j h
+
+  -- ---- what was clipped of a pixel
+
+  module _ (told : ℕ → ℕ) (test : ℤ → ℕ)
+      (is : (sum a b : ℕ) (z : ℤ) → sum + b ≡ a + offsetOf (s .depth) * 8192 + 4096 → Is a b z → told sum ≡ test (quotient z)) where
+    abbrev chromaOf : (Bool → Chroma) → Bool → ℕ
+    chromaOf which first = rounded (chroma16 s f (which first) row column)
+
+    told-is : (first : Bool)
+        → told (firstSum (kernelFor first) (lumaAt s f row column) (chromaOf firstChroma first))
+        + told (greenSum (kernelFor first) (lumaAt s f row column) (chromaOf firstChroma first) (chromaOf thirdChroma first))
+        + told (thirdSum (kernelFor first) (lumaAt s f row column) (chromaOf thirdChroma first)) ≡ countAt test s f row column
+    unfolding countAt quotientAt quotientOf
+    told-is true = told-red-first (s .depth) (s .range) t known (narrow s known u) (lumaAt s f row column) _ _ hb hr told test is
+    told-is false = told-blue-first (s .depth) (s .range) t known (narrow s known u) (lumaAt s f row column) _ _ hb hr told test is
+
+  abbrev p : ℕ
+  p = rounded (chroma16 s f (firstChroma (redFirst (s .order))) row column)
+
+  abbrev q : ℕ
+  q = rounded (chroma16 s f (thirdChroma (redFirst (s .order))) row column)
+
+  pub below-is : belowAt (kernelOf s) (lumaAt s f row column) p q ≡ countAt isBelow s f row column
+  unfolding kernelOf belowAt
+  below-is = by-first (redFirst (s .order))
+    where
+      by-first : (first : Bool)
+          → belowAt (kernelFor first) (lumaAt s f row column) (rounded (chroma16 s f (firstChroma first) row column)) (rounded (chroma16 s f (thirdChroma first) row column))
+          ≡ countAt isBelow s f row column
+      by-first true = told-is (belowOf (offsetOf (s .depth))) isBelow (λ sum a b z e h. sym (quotient-below (offsetOf (s .depth)) sum e h)) true
+      by-first false = told-is (belowOf (offsetOf (s .depth))) isBelow (λ sum a b z e h. sym (quotient-below (offsetOf (s .depth)) sum e h)) false
+
+  pub above-is : aboveAt (kernelOf s) (lumaAt s f row column) p q ≡ countAt (isAbove (maxOf (s .depth))) s f row column
+  unfolding kernelOf aboveAt
+  above-is = by-first (redFirst (s .order))
+    where
+      by-first : (first : Bool)
+          → aboveAt (kernelFor first) (lumaAt s f row column) (rounded (chroma16 s f (firstChroma first) row column)) (rounded (chroma16 s f (thirdChroma first) row column))
+          ≡ countAt (isAbove (maxOf (s .depth))) s f row column
+      by-first true = told-is (aboveOf (offsetOf (s .depth)) (maxOf (s .depth))) (isAbove (maxOf (s .depth))) (λ sum a b z e h. sym (quotient-above (offsetOf (s .depth)) sum e h (maxOf (s .depth)))) true
+      by-first false = told-is (aboveOf (offsetOf (s .depth)) (maxOf (s .depth))) (isAbove (maxOf (s .depth))) (λ sum a b z e h. sym (quotient-above (offsetOf (s .depth)) sum e h (maxOf (s .depth)))) false

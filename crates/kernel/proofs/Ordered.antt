@@ -1,12 +1,14 @@
 -- A row in a channel order asks of the row functions what it asks itself; U and V may be exchanged.
 -- Assumes nothing.
-use mathlib.Core.Path.{_≡_, ap, _∙_}
+use mathlib.Core.Logic.{_⊎_, inl, inr}
+use mathlib.Core.Path.{_≡_, sym, ap, _∙_}
 use mathlib.Core.List.{List}
 use Prim.Native.Nat.{ℕ, _*_}
 use native.Mathlib.Nat.{mul-comm}
 use lib.ListN.{length}
 use Rattle.yuv_support.specs.declared.YuvSourceChannels.{YuvSourceChannels}
-use Rattle.yuv_support.specs.Picture.{channelsOf}
+use Rattle.yuv_support.specs.declared.YuvSourceChannels.the-variants.{Rgb, Rgba, Bgra, Bgr}
+use Rattle.yuv_support.specs.Picture.{lettersOf, channelsOf}
 use Rattle.numerics.specs.Row.{RowFits}
 use Rattle.kernel.specs.Ordered.{OrderedFits}
 
@@ -14,9 +16,21 @@ module _ {o : YuvSourceChannels} {row y un uf vn vf : List ℕ} {width : ℕ} (n
   places : length row ≡ n * width
   places = f .places ∙ mul-comm width (channelsOf o) ∙ ap (λ (m : ℕ). m * width) e
 
+  three-or-four : (n ≡ 3) ⊎ (n ≡ 4)
+  unfolding channelsOf lettersOf
+  three-or-four = by-order o e
+    where
+      by-order : (a : YuvSourceChannels) → channelsOf a ≡ n → (n ≡ 3) ⊎ (n ≡ 4)
+      by-order Rgb h = inl (sym h)
+      by-order Rgba h = inr (sym h)
+      by-order Bgra h = inr (sym h)
+      by-order Bgr h = inl (sym h)
+
   pub u-first : RowFits n row y un uf vn vf width
   u-first = record {
+    letters = three-or-four;
     some = f .some;
+    wide = f .wide;
     places = places;
     luma = f .luma;
     first-near = f .u-near;
@@ -27,7 +41,9 @@ module _ {o : YuvSourceChannels} {row y un uf vn vf : List ℕ} {width : ℕ} (n
 
   pub v-first : RowFits n row y vn vf un uf width
   v-first = record {
+    letters = three-or-four;
     some = f .some;
+    wide = f .wide;
     places = places;
     luma = f .luma;
     first-near = f .v-near;

@@ -5,9 +5,10 @@ use native.Mathlib.Omega.{arith}
 use lib.Dec.{T}
 use Rattle.yuv_support.specs.declared.YuvRange.{YuvRange}
 use Rattle.yuv_support.specs.declared.YuvRange.the-variants.{Limited, Full}
-use Rattle.yuv_support.specs.Settings.{among, depths, biasY, biasC}
-use Rattle.yuv_support.proofs.Depths.{by-depth}
+use Rattle.yuv_support.specs.Settings.{among, depths, depths16, biasY, biasC}
+use Rattle.yuv_support.proofs.Depths.{each-among, by-depth}
 use Rattle.inverse_transform.specs.Narrow.{Narrow}
+use Rattle.numerics.specs.declared.Kernel.{Kernel}
 use Rattle.numerics.specs.Kernel.{Roomy}
 use Rattle.kernel.specs.Kernels.{offsetOf, mostOf, lettered}
 
@@ -18,6 +19,12 @@ pub record Room (by bc offset most ky kp gp gq kq : ℕ) : Type 0 where
   pub third : ky * by + kq * bc ≤ offset * 8192 + 4096
   pub green-bias : (gp + gq) * bc ≤ 67106816
   pub green : (gp + gq) * most ≤ offset * 8192 + 4096 + (gp + gq) * bc - ky * by
+
+-- the bases of u16 letters stand high enough to be lowered
+pub record High (k : Kernel) : Type 0 where
+  pub first : 2076180480 ≤ k .«base_first»
+  pub third : 2076180480 ≤ k .«base_third»
+  pub green : (k .«green_first» + k .«green_third») * 4095 + 1912610816 ≤ k .«base_green»
 
 module _ (ky kp gp gq kq : ℕ) (n : Narrow (record { y = ky; cr = kp; cb = kq; g1 = gp; g2 = gq })) where
   abbrev RoomAt : YuvRange → ℕ → Type 0
@@ -46,6 +53,28 @@ module _ (ky kp gp gq kq : ℕ) (n : Narrow (record { y = ky; cr = kp; cb = kq; 
       (record { top = omega arith; first = omega arith; third = omega arith; green-bias = omega arith; green = omega arith })
       d t
 
+  abbrev HighAt : YuvRange → ℕ → Type 0
+  HighAt r d = High (lettered d r ky kp gp gq kq)
+
+  pub lettered-high : (d : ℕ) (r : YuvRange) → T (among d depths16) → High (lettered d r ky kp gp gq kq)
+  unfolding biasY biasC offsetOf
+  lettered-high d Limited t =
+      let y = n .y in
+      let p = n .cr in
+      let q = n .cb in
+      let g = n .green in
+      each-among (HighAt Limited) depths16
+      (record { first = omega arith; third = omega arith; green = omega arith }, (record { first = omega arith; third = omega arith; green = omega arith }, tt))
+      d t
+  lettered-high d Full t =
+      let y = n .y in
+      let p = n .cr in
+      let q = n .cb in
+      let g = n .green in
+      each-among (HighAt Full) depths16
+      (record { first = omega arith; third = omega arith; green = omega arith }, (record { first = omega arith; third = omega arith; green = omega arith }, tt))
+      d t
+
   pub lettered-roomy : (d : ℕ) (r : YuvRange) → T (among d depths) → Roomy (mostOf d) (lettered d r ky kp gp gq kq)
   lettered-roomy d r t =
       let m = room d r t in
@@ -57,6 +86,8 @@ module _ (ky kp gp gq kq : ℕ) (n : Narrow (record { y = ky; cr = kp; cb = kq; 
         luma = omega arith;
         first = omega arith;
         third = omega arith;
+        green-first = omega (arith, n .green);
+        green-third = omega (arith, n .green);
         base-first = omega arith;
         base-third = omega arith;
         base-green = omega arith;

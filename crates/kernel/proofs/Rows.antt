@@ -1,4 +1,4 @@
--- A row that the row functions leave is the row of the definitions: its chroma is blended as document 01 has it, column by column
+-- A row that the row functions leave is the row of the definitions, and so is what they tell of it: its chroma is blended as document 01 has it, column by column
 -- (`blend-is`), and its letters are those of the pixel (`Letters`). Over any lists that hold the row's samples.
 -- Assumes nothing.
 use mathlib.Core.Path.{_≡_, refl, sym, ap, _∙_}
@@ -12,16 +12,19 @@ use lib.Dec.{T, eqb, ltb}
 use lib.ListN.{length}
 use Rattle.yuv_support.specs.declared.YuvMode.{YuvMode}
 use Rattle.yuv_support.specs.declared.Settings.{Settings}
-use Rattle.yuv_support.specs.Settings.{among, depths}
+use Rattle.yuv_support.specs.Settings.{among, depths, maxOf}
 use Rattle.yuv_support.specs.Coefficients.{usable}
 use Rattle.yuv_support.specs.Blend.{Frame, Chroma, Cb, Cr, two, left, right, tail, sixteenths, pairPlace, placeOf, chromaWidth, lumaAt, chromaSample, chroma16, tailOf, rounded}
+use Rattle.yuv_support.specs.Counts.{isBelow, isAbove, total, countAt, clippedRow}
 use Rattle.yuv_support.specs.Picture.{channelsOf, elementOf, rowOf}
 use Rattle.yuv_support.proofs.Blend.{blend-le}
+use Rattle.yuv_support.proofs.Counts.{total-as}
 use Rattle.yuv_support.proofs.Overlay.{overlay-length, overlay-at, is-overlay}
 use Rattle.yuv_support.proofs.Picture.{three-or-four-channels}
-use Rattle.numerics.specs.Row.{rowValue, at, pairChroma, rowChroma, wholeValue}
+use Rattle.numerics.specs.Kernel.{belowAt, aboveAt}
+use Rattle.numerics.specs.Row.{rowValue, at, pairChroma, rowChroma, wholeValue, clippedOver, wholeClipped}
 use Rattle.kernel.specs.Kernels.{redFirst, mostOf, firstChroma, thirdChroma, kernelOf}
-use Rattle.kernel.proofs.Letters.{letter-is}
+use Rattle.kernel.proofs.Letters.{letter-is, below-is, above-is}
 
 -- N and F are the samples of the near and the far row at a column
 module _ (mode : YuvMode) (ch : Chroma) (width : ℕ) (near far : List ℕ) (N F : ℕ → ℕ) (last : ℕ)
@@ -101,3 +104,20 @@ module _ (s : Settings) (f : Frame) (known : T (among (s .depth) depths)) (u : T
   row-is xs l =
       is-overlay (λ x old. elementOf s f row x) xs _ (overlay-length _ 0 xs)
       (λ x b. overlay-at _ xs x b ∙ value-is x (rw l at b))
+
+  -- what is clipped in the row
+  pub clipped-is : wholeClipped (kernelOf s) (f .width) y (nears p) (fars p) (nears q) (fars q) (lasts p) (lasts q) ≡ clippedRow s f row
+  unfolding clippedOver clippedRow
+  clipped-is = rw (below, above)
+    where
+      below : total (λ c. belowAt (kernelOf s) (at y c) (rowChroma (f .width) (nears p) (fars p) (lasts p) c) (rowChroma (f .width) (nears q) (fars q) (lasts q) c)) (f .width)
+          ≡ total (countAt isBelow s f row) (f .width)
+      below =
+          total-as _ (countAt isBelow s f row) (f .width)
+          (λ c h. rw (hy c h, chroma-is p c h, chroma-is q c h) (below-is s f known u row c (chroma-le Cb c) (chroma-le Cr c)))
+
+      above : total (λ c. aboveAt (kernelOf s) (at y c) (rowChroma (f .width) (nears p) (fars p) (lasts p) c) (rowChroma (f .width) (nears q) (fars q) (lasts q) c)) (f .width)
+          ≡ total (countAt (isAbove (maxOf (s .depth))) s f row) (f .width)
+      above =
+          total-as _ (countAt (isAbove (maxOf (s .depth))) s f row) (f .width)
+          (λ c h. rw (hy c h, chroma-is p c h, chroma-is q c h) (above-is s f known u row c (chroma-le Cb c) (chroma-le Cr c)))

@@ -22,11 +22,11 @@ redFirst Bgr = false
 
 -- how far a sum is kept above its value, over 8,192: bytes have depth 8
 unfoldable pub offsetOf : ℕ → ℕ
-offsetOf d = cond (eqb d 8) 2048 262144
+offsetOf d = cond (eqb d 8) 32511 262144
 
--- the largest sample that a plane can hold
+-- the largest sample that a kernel has room for
 unfoldable pub mostOf : ℕ → ℕ
-mostOf d = cond (eqb d 8) 255 65535
+mostOf d = cond (eqb d 8) 4095 65535
 
 -- the kernel of coefficients t, whose first letter's are kp and gp and whose third letter's are kq and gq
 abbrev pub lettered : ℕ → YuvRange → ℕ → ℕ → ℕ → ℕ → ℕ → Kernel

@@ -1,4 +1,5 @@
--- A row in a channel order, from its luma row and the near and far rows of U and V; and what converting rows of a frame asks.
+-- A row in a channel order, from its luma row and the near and far rows of U and V, and what is clipped in it; and what converting rows
+-- of a frame asks.
 -- Definitions only.
 use mathlib.Core.Path.{_≡_}
 use mathlib.Core.List.{List}
@@ -7,6 +8,7 @@ use lib.Dec.{T}
 use lib.ListN.{length}
 use Rattle.yuv_support.specs.declared.YuvSourceChannels.{YuvSourceChannels}
 use Rattle.yuv_support.specs.declared.YuvMode.{YuvMode}
+use Rattle.yuv_support.specs.declared.Clipped.{Clipped}
 use Rattle.yuv_support.specs.declared.Settings.{Settings}
 use Rattle.yuv_support.specs.Settings.{among, depths}
 use Rattle.yuv_support.specs.Coefficients.{usable}
@@ -14,7 +16,7 @@ use Rattle.yuv_support.specs.Blend.{Frame, Chroma, Cb, Cr, chromaWidth, chromaH
 use Rattle.yuv_support.specs.Picture.{channelsOf}
 use Rattle.yuv_support.specs.Questions.{needed}
 use Rattle.numerics.specs.declared.Kernel.{Kernel}
-use Rattle.numerics.specs.Row.{at, wholeValue}
+use Rattle.numerics.specs.Row.{at, wholeValue, wholeClipped}
 use Rattle.kernel.specs.Kernels.{redFirst, firstChroma, thirdChroma, kernelOf}
 
 -- the row of U for Cb, of V for Cr
@@ -34,6 +36,15 @@ orderedBy k n mode width p q y un uf vn vf =
 
 unfoldable pub orderedValue : Kernel → YuvSourceChannels → YuvMode → ℕ → List ℕ → List ℕ → List ℕ → List ℕ → List ℕ → ℕ → ℕ
 orderedValue k o mode width = orderedBy k (channelsOf o) mode width (firstChroma (redFirst o)) (thirdChroma (redFirst o))
+
+-- what is clipped in the row
+abbrev pub clippedBy : Kernel → YuvMode → ℕ → Chroma → Chroma → List ℕ → List ℕ → List ℕ → List ℕ → List ℕ → Clipped
+clippedBy k mode width p q y un uf vn vf =
+    wholeClipped k width y (pick p un vn) (pick p uf vf) (pick q un vn) (pick q uf vf)
+    (lastOf mode width p (pick p un vn) (pick p uf vf)) (lastOf mode width q (pick q un vn) (pick q uf vf))
+
+unfoldable pub orderedClipped : Kernel → YuvSourceChannels → YuvMode → ℕ → List ℕ → List ℕ → List ℕ → List ℕ → List ℕ → Clipped
+orderedClipped k o mode width = clippedBy k mode width (firstChroma (redFirst o)) (thirdChroma (redFirst o))
 
 -- the samples and the places of a row are there
 pub record OrderedFits (o : YuvSourceChannels) (row y un uf vn vf : List ℕ) (width : ℕ) : Type 0 where

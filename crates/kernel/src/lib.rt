@@ -27,7 +27,7 @@ fn offset_of(depth: u32) -> u32
     ensures { λ r. ⌜ r ≡ offsetOf depth ⌝ }
 {
     if depth == 8 {
-        return 2048;
+        return 32511;
     }
     262144
 }

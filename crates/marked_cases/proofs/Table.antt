@@ -2,20 +2,24 @@
 -- Assumes nothing.
 use mathlib.Core.Path.{refl}
 use lib.Ieee.{ofInt, mul, sub, div, le}
-use Rattle.yuv_support.specs.Settings.{maxOf, biasY, biasC, rangeY, rangeC, weightR, weightB, weightG, weightsOf}
+use Rattle.yuv_support.specs.Settings.{maxOf, biasY, biasC, rangeY, rangeC, unpacked, weightR, weightB, weightG, weightsOf}
 use Rattle.yuv_support.specs.Coefficients.{exactY, exactOuter, exactInner, storedOf, isStored, ratio, greenWeight, outer, inner, roundAway, integer, computedOf, coefficientsOf, customUsable, usableWith, usable}
-use Rattle.yuv_support.specs.Blend.{sixteenths, chromaHeight}
-use Rattle.yuv_support.specs.Component.{step, sumOf, quotientOf, componentOf}
+use Rattle.yuv_support.specs.Blend.{chromaHeight, rowsOf, placeOf, nearRow, farRow, sixteenths, chroma16}
+use Rattle.yuv_support.specs.Component.{step, sumOf, quotientOf, componentOf, quotientAt}
+use Rattle.yuv_support.specs.Counts.{total, countAt, clippedRow, clippedIn}
 use Rattle.yuv_support.specs.Picture.{lettersOf, channelsOf}
 use Rattle.yuv_support.specs.Questions.{verdict, questionsOf, settingsQuestions}
+use Rattle.yuv_support.specs.Conversion.{answerTo, clippedAfter}
 use Rattle.settings_used.specs.Used.{settingsUsedOf}
 use Rattle.marked_cases.specs.Marked.{Marked}
 use Rattle.marked_cases.proofs.Sheet.{marked-sheet}
 
 pub marked : Marked
-unfolding maxOf biasY biasC rangeY rangeC weightR weightB weightG weightsOf
+unfolding maxOf biasY biasC rangeY rangeC unpacked weightR weightB weightG weightsOf
     exactY exactOuter exactInner storedOf isStored ratio greenWeight outer inner roundAway integer computedOf coefficientsOf customUsable usableWith usable
-    sixteenths chromaHeight step sumOf quotientOf componentOf lettersOf channelsOf verdict questionsOf settingsQuestions settingsUsedOf
+    chromaHeight rowsOf placeOf nearRow farRow sixteenths chroma16 step sumOf quotientOf componentOf quotientAt
+    total countAt clippedRow clippedIn answerTo clippedAfter
+    lettersOf channelsOf verdict questionsOf settingsQuestions settingsUsedOf
     ofInt mul sub div le
 marked = record {
   sheet = marked-sheet;
@@ -35,6 +39,9 @@ marked = record {
     refl,
   );
   largest-sides = (refl, refl, refl);
+  sheet-clipped = refl;
+  limited-bt709-clipped = refl;
+  refused-clipped = refl;
   matched-tail = λ b e. (refl, refl);
   matched-smpte240 = (refl, refl);
   mode-known = (refl, refl);

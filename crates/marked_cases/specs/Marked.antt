@@ -5,6 +5,7 @@ use mathlib.Core.Path.{_≡_}
 use mathlib.Core.Bool.{false}
 use mathlib.Core.List.{List, [], _∷_}
 use lib.Ieee.{Float, binary32, round}
+use lib.ListN.{length, replicate}
 use Rattle.yuv_support.specs.declared.YuvRange.{YuvRange}
 use Rattle.yuv_support.specs.declared.YuvRange.the-variants.{Limited, Full}
 use Rattle.yuv_support.specs.declared.YuvStandardMatrix.{YuvStandardMatrix}
@@ -15,13 +16,16 @@ use Rattle.yuv_support.specs.declared.YuvBytesPacking.the-variants.{LeastSignif
 use Rattle.yuv_support.specs.declared.YuvMode.{YuvMode}
 use Rattle.yuv_support.specs.declared.YuvMode.the-variants.{AsSource, Matched}
 use Rattle.yuv_support.specs.declared.CbCrInverseTransform.{CbCrInverseTransform}
+use Rattle.yuv_support.specs.declared.Clipped.{Clipped}
 use Rattle.yuv_support.specs.declared.Codes.{Codes}
 use Rattle.yuv_support.specs.declared.Settings.{Settings}
+use Rattle.yuv_support.specs.declared.YuvPlanarImage.{YuvPlanarImage}
 use Rattle.yuv_support.specs.Settings.{depths8, biasC}
 use Rattle.yuv_support.specs.Coefficients.{coefficientsOf}
 use Rattle.yuv_support.specs.Blend.{Chroma, Cb, Cr, one, two, left, right, tail, sixteenths, rounded, chromaWidth, chromaHeight}
 use Rattle.yuv_support.specs.Component.{R, G, B, componentOf}
 use Rattle.yuv_support.specs.Questions.{Verdict, accepted, refused, verdict, Request, extent, conversionQuestions}
+use Rattle.yuv_support.specs.Conversion.{clippedAfter}
 use Rattle.yuv_error.specs.Told.{asTold}
 use Rattle.sheet_text.specs.Sheet.{sheetOf}
 use Rattle.settings_used.specs.Used.{refusal, settingsUsedOf}
@@ -95,16 +99,19 @@ Number13 k d =
     × (settingsUsedOf (codes d 1 6 k) ≡ refusal (asTold (refused 13)))
 
 -- strides and buffers just large enough for the sides
+abbrev pub image : ℕ → ℕ → YuvPlanarImage
+image width height = record {
+  width = width;
+  height = height;
+  «y_stride» = width;
+  «u_stride» = chromaWidth width;
+  «v_stride» = chromaWidth width;
+}
+
 abbrev pub request : Codes → ℕ → ℕ → Request
 request c width height = record {
   codes = c;
-  image = record {
-    width = width;
-    height = height;
-    «y_stride» = width;
-    «u_stride» = chromaWidth width;
-    «v_stride» = chromaWidth width;
-  };
+  image = image width height;
   y-length = width * height;
   u-length = chromaWidth width * chromaHeight Yuv420 height;
   v-length = chromaWidth width * chromaHeight Yuv420 height;
@@ -113,6 +120,14 @@ request c width height = record {
 
 abbrev pub verdictOn : Codes → ℕ → ℕ → Verdict
 verdictOn c width height = verdict (conversionQuestions depths8 (request c width height))
+
+-- below and above
+abbrev pub counts : ℕ → ℕ → Clipped
+counts below above = record { below = below; above = above }
+
+-- what was clipped in a row of luma y and chroma u and v, the destination having n elements
+abbrev pub clippedOn : Codes → List ℕ → List ℕ → List ℕ → ℕ → Clipped
+clippedOn c y u v n = clippedAfter depths8 c (image (length y) 1) y u v (length y * 3) (replicate n 0)
 
 -- ---- the table
 
@@ -161,7 +176,14 @@ pub record Marked : Type 0 where
       (verdictOn (codes 8 1 0 (tenths 0)) 16384 16384 ≡ accepted)
       × (verdictOn (codes 8 1 0 (tenths 0)) 16385 16384 ≡ refused 4)
       × (verdictOn (codes 8 1 0 (tenths 0)) 16384 16385 ≡ refused 4)
-  -- document 02, slip 4: "the two-row tail of Cr has Cb's weights"
+  -- document 02, slip 3: "the marked sheet ends with `clipped 1 0`"; `sheet` has its last line
+  pub sheet-clipped : clippedOn (codes 8 1 0 (tenths 0)) (100 ∷ 50 ∷ []) (128 ∷ []) (228 ∷ []) 6 ≡ counts 1 0
+  -- of limited BT.709, neutral, Y 0, 16, 235, 255 the first pixel lies below 0 and the last above 255; a quotient of 0 or 255 is not clipped
+  pub limited-bt709-clipped :
+      clippedOn (codes 8 0 1 (tenths 0)) (0 ∷ 16 ∷ 235 ∷ 255 ∷ []) (128 ∷ 128 ∷ []) (128 ∷ 128 ∷ []) 12 ≡ counts 3 3
+  -- "a refused call gives 0 and 0": the destination lacks an element
+  pub refused-clipped : clippedOn (codes 8 1 0 (tenths 0)) (100 ∷ 50 ∷ []) (128 ∷ []) (228 ∷ []) 5 ≡ counts 0 0
+  -- slip 4: "the two-row tail of Cr has Cb's weights"
   pub matched-tail : (b e : ℕ) →
       (rounded (sixteenths Matched Cb two tail 10 b 30 e) ≡ 15)
       × (rounded (sixteenths Matched Cr two tail 10 b 30 e) ≡ 15)

@@ -1,3 +1,8 @@
 pub mod Products
+pub mod Sums
+pub mod Choice
 pub mod Row
-pub mod Loops
+pub mod Clips
+pub mod Lowered
+pub mod Parts
+pub mod Tails

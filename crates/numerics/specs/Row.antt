@@ -1,14 +1,18 @@
--- A row of letters, from a row of luma and rows of chroma.
+-- A row of letters, from a row of luma and rows of chroma, and what was clipped in it.
 -- Definitions only.
 use Prim.Native.Nat.{ℕ, _+_, _*_, _/_, _%_, _≤_, _<_}
+use mathlib.Core.Logic.{_⊎_}
 use mathlib.Core.Path.{_≡_}
 use mathlib.Core.Bool.{cond}
-use mathlib.Core.List.{List, [], _∷_, _++_}
+use mathlib.Core.List.{List, [], _∷_}
 use lib.Dec.{eqb, ltb}
 use lib.ListN.{length, getD}
 use Rattle.yuv_support.specs.Blend.{chromaWidth, rounded}
+use Rattle.yuv_support.specs.declared.Clipped.{Clipped}
+use Rattle.yuv_support.specs.Picture.{overlay, upTo}
+use Rattle.yuv_support.specs.Counts.{total}
 use Rattle.numerics.specs.declared.Kernel.{Kernel}
-use Rattle.numerics.specs.Kernel.{firstOf, greenOf, thirdOf, letterOf}
+use Rattle.numerics.specs.Kernel.{firstOf, greenOf, thirdOf, letterOf, belowAt, aboveAt}
 
 -- element x of a row of n letters to the pixel: Y, P and Q give luma and the chroma of the first and the third letter at a column
 unfoldable pub rowValue : Kernel → ℕ → (ℕ → ℕ) → (ℕ → ℕ) → (ℕ → ℕ) → ℕ → ℕ
@@ -25,6 +29,14 @@ leftOf near far j = rounded (9 * at near j + 3 * at near (j + 1) + 3 * at far j 
 abbrev pub rightOf : List ℕ → List ℕ → ℕ → ℕ
 rightOf near far j = rounded (3 * at near j + 9 * at near (j + 1) + at far j + 3 * at far (j + 1))
 
+-- the near and the far sample of a column, in quarters; and chroma from the sums of the columns
+abbrev pub columnOf : List ℕ → List ℕ → ℕ → ℕ
+columnOf near far j = 3 * at near j + at far j
+
+abbrev pub acrossAt : List ℕ → ℕ → ℕ
+acrossAt sums column =
+    cond (eqb (column % 2) 0) (rounded (3 * at sums (column / 2) + at sums (column / 2 + 1))) (rounded (at sums (column / 2) + 3 * at sums (column / 2 + 1)))
+
 -- chroma at a column of the pairs
 abbrev pub pairChroma : List ℕ → List ℕ → ℕ → ℕ
 pairChroma near far column = cond (eqb (column % 2) 0) (leftOf near far (column / 2)) (rightOf near far (column / 2))
@@ -40,34 +52,66 @@ three k y p q = firstOf k y p ∷ greenOf k y p q ∷ thirdOf k y q ∷ []
 abbrev pub four : Kernel → ℕ → ℕ → ℕ → List ℕ
 four k y p q = firstOf k y p ∷ greenOf k y p q ∷ thirdOf k y q ∷ k .max ∷ []
 
--- the letters of pair j
-abbrev pub pair3 : Kernel → List ℕ → List ℕ → List ℕ → List ℕ → List ℕ → ℕ → List ℕ
-pair3 k y pn pf qn qf j =
-    three k (at y (2 * j)) (leftOf pn pf j) (leftOf qn qf j) ++ three k (at y (2 * j + 1)) (rightOf pn pf j) (rightOf qn qf j)
+abbrev pub stored : Kernel → ℕ → ℕ → ℕ → ℕ → List ℕ
+stored k n y p q = cond (eqb n 3) (three k y p q) (four k y p q)
 
-abbrev pub pair4 : Kernel → List ℕ → List ℕ → List ℕ → List ℕ → List ℕ → ℕ → List ℕ
-pair4 k y pn pf qn qf j =
-    four k (at y (2 * j)) (leftOf pn pf j) (leftOf qn qf j) ++ four k (at y (2 * j + 1)) (rightOf pn pf j) (rightOf qn qf j)
-
--- element x of a row: of the pairs, of a tail with the chroma samples p and q, and of the whole row whose tail has tp and tq
+-- element x of a row: of the pairs, and of the whole row whose tail has the chroma samples tp and tq
 abbrev pub pairsValue : Kernel → ℕ → List ℕ → List ℕ → List ℕ → List ℕ → List ℕ → ℕ → ℕ
 pairsValue k n y pn pf qn qf = rowValue k n (at y) (pairChroma pn pf) (pairChroma qn qf)
-
-abbrev pub tailValue : Kernel → ℕ → List ℕ → ℕ → ℕ → ℕ → ℕ
-tailValue k n y p q = rowValue k n (at y) (λ column. p) (λ column. q)
 
 abbrev pub wholeValue : Kernel → ℕ → ℕ → List ℕ → List ℕ → List ℕ → List ℕ → List ℕ → ℕ → ℕ → ℕ → ℕ
 wholeValue k n width y pn pf qn qf tp tq = rowValue k n (at y) (rowChroma width pn pf tp) (rowChroma width qn qf tq)
 
--- what a row holds from place a on is h of the place, and before it what xs has
-abbrev pub resumed : ℕ → (ℕ → ℕ) → List ℕ → ℕ → ℕ
-resumed a h xs x = cond (ltb x a) (at xs x) (h x)
+-- ---- what was clipped
+
+-- in the first n columns of a row
+unfoldable pub clippedOver : Kernel → (ℕ → ℕ) → (ℕ → ℕ) → (ℕ → ℕ) → ℕ → Clipped
+clippedOver k Y P Q n = record {
+  below = total (λ c. belowAt k (Y c) (P c) (Q c)) n;
+  above = total (λ c. aboveAt k (Y c) (P c) (Q c)) n;
+}
+
+-- of the pairs, and of the whole row
+abbrev pub pairsClipped : Kernel → List ℕ → List ℕ → List ℕ → List ℕ → List ℕ → ℕ → Clipped
+pairsClipped k y pn pf qn qf pairs = clippedOver k (at y) (pairChroma pn pf) (pairChroma qn qf) (2 * pairs)
+
+abbrev pub wholeClipped : Kernel → ℕ → List ℕ → List ℕ → List ℕ → List ℕ → List ℕ → ℕ → ℕ → Clipped
+wholeClipped k width y pn pf qn qf tp tq = clippedOver k (at y) (rowChroma width pn pf tp) (rowChroma width qn qf tq) width
+
+-- the word of counts of a pixel, and of the pair at columns 2·j and 2·j + 1
+abbrev pub wordAt : Kernel → ℕ → ℕ → ℕ → ℕ
+wordAt k y p q = belowAt k y p q + 256 * aboveAt k y p q
+
+abbrev pub pairWord : Kernel → (ℕ → ℕ) → (ℕ → ℕ) → (ℕ → ℕ) → ℕ → ℕ
+pairWord k Y P Q j = wordAt k (Y (2 * j)) (P (2 * j)) (Q (2 * j)) + wordAt k (Y (2 * j + 1)) (P (2 * j + 1)) (Q (2 * j + 1))
 
 -- ---- what the row functions ask of their callers, at n letters to the pixel
 
+-- the first n samples are below 4,096
+pub record Small (n : ℕ) (xs : List ℕ) : Type 0 where
+  pub most : (j : ℕ) → j < n → at xs j ≤ 4095
+
+-- the first n elements of an array are g of their places
+pub record Filled (n : ℕ) (g : ℕ → ℕ) (xs : List ℕ) : Type 0 where
+  pub value : (j : ℕ) → j < n → at xs j ≡ g j
+
+-- the first c elements of a row are g of their places, and the others as they stood in row₀
+pub record Begun (g : ℕ → ℕ) (row₀ row : List ℕ) (c : ℕ) : Type 0 where
+  pub done : row ≡ overlay (upTo c g) 0 row₀
+
+-- luma and chroma of some columns, places for their letters, and for words of counts
+pub record BlockFits (n columns counts : ℕ) (row y p q words : List ℕ) : Type 0 where
+  pub letters : (n ≡ 3) ⊎ (n ≡ 4)
+  pub places : length row ≡ n * columns
+  pub luma : columns ≤ length y
+  pub first : columns ≤ length p
+  pub third : columns ≤ length q
+  pub room : counts ≤ length words
+
 -- the samples and the places of `pairs` pairs are there
 pub record PairsFit (n : ℕ) (row y pn pf qn qf : List ℕ) (pairs : ℕ) : Type 0 where
-  pub places : 2 * n * pairs ≤ length row
+  pub letters : (n ≡ 3) ⊎ (n ≡ 4)
+  pub places : n * (2 * pairs) ≤ length row
   pub luma : 2 * pairs ≤ length y
   pub first-near : pairs < length pn
   pub first-far : pairs < length pf
@@ -76,7 +120,9 @@ pub record PairsFit (n : ℕ) (row y pn pf qn qf : List ℕ) (pairs : ℕ) : Typ
 
 -- the samples and the places of a row are there
 pub record RowFits (n : ℕ) (row y pn pf qn qf : List ℕ) (width : ℕ) : Type 0 where
+  pub letters : (n ≡ 3) ⊎ (n ≡ 4)
   pub some : 1 ≤ width
+  pub wide : width ≤ 16384
   pub places : length row ≡ n * width
   pub luma : width ≤ length y
   pub first-near : chromaWidth width ≤ length pn

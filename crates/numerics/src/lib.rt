@@ -1,11 +1,16 @@
-// The arithmetic of a pixel: blended chroma samples, and the rounding that makes a component.
+// The arithmetic of a pixel: blended chroma samples, the rounding that makes a component and tells whether it was clipped, and counts.
 // A pixel's letters are taken as first, green and third: red, green, blue in RGB and RGBA, and blue, green, red in BGR and BGRA.
-// A sum is kept above its value by a multiple of 8,192, so that it never falls below 0: 2,048 of them for bytes, where a quotient then
-// fits 16 bits, and 262,144 for u16 samples, which may be anything up to 65,535.
+// A sum is kept above its value by a multiple of 8,192, so that it never falls below 0: 32,511 of them for bytes, and 262,144 for u16
+// samples, which may be anything up to 65,535. Where these are below 4,096, 32,766 less the largest letter are enough (`lowered`).
 ghost use mathlib.Core.Path.{_≡_};
-ghost use Prim.Native.Nat.{_+_, _-_, _*_, _≤_, _<_, min};
+ghost use Prim.Native.Nat.{ℕ, _+_, _-_, _*_, _/_, _%_, _≤_, _<_, min};
+ghost use lib.IntN.{pos, natAbs};
+ghost use lib.ListN.{length};
 ghost use Rattle.yuv_support.specs.Blend.{Cr, rounded, tailOf};
-ghost use Rattle.numerics.specs.Kernel.{shifted, outerOf, innerOf, firstOf, greenOf, thirdOf, Bytes, Words};
+ghost use Rattle.yuv_support.specs.Counts.{together, total};
+ghost use Rattle.numerics.specs.Kernel.{letterOfSum, OneAtMost, lettersOf, lettersAt, Quick, Words, lowered};
+ghost use Rattle.numerics.specs.Row.{at};
+use yuv_support::Clipped;
 use yuv_support::YuvMode;
 
 // The coefficients of a pixel's letters, with the biases, the rounding and the offset folded into one constant for each letter.
@@ -24,20 +29,41 @@ pub struct Kernel {
     pub half: u32,
 }
 
-// The letters of a pixel but for alpha.
-pub struct Letters8 {
-    pub first: u8,
-    pub green: u8,
-    pub third: u8,
+// A letter, and 1 if it was below 0, or above the largest, before it was clamped.
+pub struct Letter {
+    pub value: u16,
+    pub below: u16,
+    pub above: u16,
 }
 
-pub struct Letters16 {
+// The letters of a pixel but for alpha, and how many of them were below 0 and above the largest.
+pub struct Letters {
     pub first: u16,
     pub green: u16,
     pub third: u16,
+    pub below: u16,
+    pub above: u16,
 }
 
-// ---- bytes
+// ---- sums whose quotients fit 16 bits
+
+// A coefficient times a sample. Both are said to be below 32,768, so that the compiler multiplies 16 bits by 16.
+fn product(k: u16, x: u16) -> u32
+    requires { ⌜ (k ≤ 32767) × (x ≤ 4095) ⌝ }
+    ensures { λ r. ⌜ (r ≡ k * x) × (r ≤ k * 4095) ⌝ }
+{
+    (k % 32768) as u32 * (x % 32768) as u32
+}
+
+// Cut to an i16 at both ends, as the compiler's packing does. No sum comes near the lower end.
+fn packed(q: i32) -> i16
+    requires { ⌜ q ≡ pos (natAbs q) ⌝ }
+    ensures { λ r. ⌜ r ≡ pos (min (natAbs q) 32767) ⌝ }
+{
+    let a = if q < -32768 { -32768 } else { q };
+    let b = if 32767 < a { 32767 } else { a };
+    b as i16
+}
 
 fn saturating_sub16(a: u16, b: u16) -> u16
     ensures { λ r. ⌜ r ≡ a - b ⌝ }
@@ -45,48 +71,110 @@ fn saturating_sub16(a: u16, b: u16) -> u16
     if a < b { 0 } else { a - b }
 }
 
-fn at_most_255(a: u16) -> u8
-    ensures { λ r. ⌜ r ≡ min a 255 ⌝ }
+// Saturating rounding shift right, of a sum that is offset·8,192 above its value. 32,767 is offset + max + 1.
+fn qrshr(sum: u32, offset: u16, max: u16) -> Letter
+    requires { ⌜ (sum < 536870912) × (offset + max ≡ 32766) × (max ≤ 4095) ⌝ }
+    ensures { λ r. ⌜ r ≡ letterOfSum offset max sum ⌝ }
 {
-    if 255 < a { 255 } else { a as u8 }
-}
-
-// Saturating rounding shift right, of a sum that is 2,048·8,192 above its value.
-fn qrshr8(sum: u32) -> u8
-    requires { ⌜ sum < 536870912 ⌝ }
-    ensures { λ r. ⌜ r ≡ shifted 2048 255 sum ⌝ }
-{
-    at_most_255(saturating_sub16((sum / 8192) as u16, 2048))
-}
-
-fn outer8(ky: u16, kc: u16, base: u32, y: u8, c: u8) -> u8
-    requires { ⌜ (ky + kc ≤ 32767) × (base ≤ 16781312) ⌝ }
-    ensures { λ r. ⌜ r ≡ outerOf 2048 255 ky kc base y c ⌝ }
-{
-    qrshr8((ky as u32) * (y as u32) + (kc as u32) * (c as u32) + base)
-}
-
-fn inner8(ky: u16, kp: u16, kq: u16, base: u32, y: u8, p: u8, q: u8) -> u8
-    requires { ⌜ (ky ≤ 16383) × (base ≤ 83888128) × ((kp + kq) * 255 ≤ base) ⌝ }
-    ensures { λ r. ⌜ r ≡ innerOf 2048 255 ky kp kq base y p q ⌝ }
-{
-    let taken = (kp as u32) * (p as u32) + (kq as u32) * (q as u32);
-    qrshr8((ky as u32) * (y as u32) + base - taken)
-}
-
-// The letters of a pixel from luma y and the chroma samples of the first and the third letter.
-pub fn pixel8(k: Kernel, y: u8, p: u8, q: u8) -> Letters8
-    requires { ⌜ Bytes k ⌝ }
-    ensures { λ r. ⌜ r ≡ record { first = firstOf k y p; green = greenOf k y p q; third = thirdOf k y q } ⌝ }
-{
-    Letters8 {
-        first: outer8(k.y, k.first, k.base_first, y, p),
-        green: inner8(k.y, k.green_first, k.green_third, k.base_green, y, p, q),
-        third: outer8(k.y, k.third, k.base_third, y, q),
+    let q = packed(sum as i32 >> 13) as u16;
+    let least = saturating_sub16(q, offset - 1);
+    let v = saturating_sub16(q, offset);
+    let above = saturating_sub16(v, max);
+    Letter {
+        value: v - above,
+        below: 1 + v - least,
+        above,
     }
 }
 
-// ---- u16 samples
+// The first or the third letter, of luma y and its chroma sample c.
+fn outer(ky: u16, kc: u16, base: u32, offset: u16, max: u16, y: u16, c: u16) -> Letter
+    requires { ⌜ (ky + kc ≤ 32767) × (base ≤ offset * 8192 + 4096) × (offset + max ≡ 32766) × (max ≤ 4095) × (y ≤ 4095) × (c ≤ 4095) ⌝ }
+    ensures { λ r. ⌜ r ≡ letterOfSum offset max (ky * y + kc * c + base) ⌝ }
+{
+    qrshr(product(ky, y) + product(kc, c) + base, offset, max)
+}
+
+// Green, of luma y and the chroma samples p and q of the first and the third letter.
+fn inner(
+    ky: u16,
+    kp: u16,
+    kq: u16,
+    base: u32,
+    offset: u16,
+    max: u16,
+    y: u16,
+    p: u16,
+    q: u16,
+) -> Letter
+    requires { ⌜ (ky ≤ 16383) × (kp ≤ 32767) × (kq ≤ 32767) × (base ≤ offset * 8192 + 67110912) × ((kp + kq) * 4095 ≤ base) ⌝ }
+    requires { ⌜ (offset + max ≡ 32766) × (max ≤ 4095) × (y ≤ 4095) × (p ≤ 4095) × (q ≤ 4095) ⌝ }
+    ensures { λ r. ⌜ r ≡ letterOfSum offset max (ky * y + base - (kp * p + kq * q)) ⌝ }
+{
+    let taken = product(kp, p) + product(kq, q);
+    qrshr(product(ky, y) + base - taken, offset, max)
+}
+
+// The three letters, and how many of them were clipped.
+fn joined(first: Letter, green: Letter, third: Letter) -> Letters
+    requires { ⌜ OneAtMost first × OneAtMost green × OneAtMost third ⌝ }
+    ensures { λ r. ⌜ r ≡ lettersOf first green third ⌝ }
+{
+    Letters {
+        first: first.value,
+        green: green.value,
+        third: third.value,
+        below: first.below + green.below + third.below,
+        above: first.above + green.above + third.above,
+    }
+}
+
+// The letters of a pixel from luma y and the chroma samples p and q of the first and the third letter.
+pub fn pixel(k: Kernel, y: u16, p: u16, q: u16) -> Letters
+    requires { ⌜ Quick k × (y ≤ 4095) × (p ≤ 4095) × (q ≤ 4095) ⌝ }
+    ensures { λ r. ⌜ r ≡ lettersAt k y p q ⌝ }
+{
+    let offset = k.offset as u16;
+    let max = k.max;
+    let a = outer(k.y, k.first, k.base_first, offset, max, y, p);
+    let b = inner(
+        k.y,
+        k.green_first,
+        k.green_third,
+        k.base_green,
+        offset,
+        max,
+        y,
+        p,
+        q,
+    );
+    let c = outer(k.y, k.third, k.base_third, offset, max, y, q);
+    joined(a, b, c)
+}
+
+// The kernel for u16 samples below 4,096.
+pub fn lower(k: Kernel) -> Kernel
+    requires { ⌜ Words k ⌝ }
+    ensures { λ r. ⌜ r ≡ lowered k ⌝ }
+{
+    let offset = 32766 - k.max as u32;
+    let down = (k.offset - offset) * 8192;
+    Kernel {
+        offset,
+        max: k.max,
+        y: k.y,
+        first: k.first,
+        green_first: k.green_first,
+        green_third: k.green_third,
+        third: k.third,
+        base_first: k.base_first - down,
+        base_green: k.base_green - down,
+        base_third: k.base_third - down,
+        half: k.half,
+    }
+}
+
+// ---- any u16 samples
 
 fn saturating_sub32(a: u32, b: u32) -> u32
     ensures { λ r. ⌜ r ≡ a - b ⌝ }
@@ -107,17 +195,22 @@ fn at_most(a: u16, max: u16) -> u16
     if max < a { max } else { a }
 }
 
-// Saturating rounding shift right, of a sum that is 262,144·8,192 above its value.
-fn qrshr16(sum: u32, max: u16) -> u16
-    requires { ⌜ max ≤ 32767 ⌝ }
-    ensures { λ r. ⌜ r ≡ shifted 262144 max sum ⌝ }
+// Saturating rounding shift right, of a sum that is 262,144·8,192 above its value. The quotient is below 524,288.
+fn qrshr16(sum: u32, max: u16) -> Letter
+    requires { ⌜ max ≤ 4095 ⌝ }
+    ensures { λ r. ⌜ r ≡ letterOfSum 262144 max sum ⌝ }
 {
-    at_most(at_most_32767(saturating_sub32(sum / 8192, 262144)), max)
+    let q = sum / 8192;
+    Letter {
+        value: at_most(at_most_32767(saturating_sub32(q, 262144)), max),
+        below: 1 - (q / 262144) as u16,
+        above: ((q + (262143 - max as u32)) / 524288) as u16,
+    }
 }
 
-fn outer16(ky: u16, kc: u16, base: u32, max: u16, y: u16, c: u16) -> u16
-    requires { ⌜ (ky + kc ≤ 32767) × (base ≤ 2147487744) × (max ≤ 32767) ⌝ }
-    ensures { λ r. ⌜ r ≡ outerOf 262144 max ky kc base y c ⌝ }
+fn outer16(ky: u16, kc: u16, base: u32, max: u16, y: u16, c: u16) -> Letter
+    requires { ⌜ (ky + kc ≤ 32767) × (base ≤ 2147487744) × (max ≤ 4095) ⌝ }
+    ensures { λ r. ⌜ r ≡ letterOfSum 262144 max (ky * y + kc * c + base) ⌝ }
 {
     qrshr16(
         (ky as u32) * (y as u32) + (kc as u32) * (c as u32) + base,
@@ -125,48 +218,69 @@ fn outer16(ky: u16, kc: u16, base: u32, max: u16, y: u16, c: u16) -> u16
     )
 }
 
-fn inner16(ky: u16, kp: u16, kq: u16, base: u32, max: u16, y: u16, p: u16, q: u16) -> u16
-    requires { ⌜ (ky ≤ 16383) × (base ≤ 2214594560) × ((kp + kq) * 65535 ≤ base) × (max ≤ 32767) ⌝ }
-    ensures { λ r. ⌜ r ≡ innerOf 262144 max ky kp kq base y p q ⌝ }
+fn inner16(ky: u16, kp: u16, kq: u16, base: u32, max: u16, y: u16, p: u16, q: u16) -> Letter
+    requires { ⌜ (ky ≤ 16383) × (base ≤ 2214594560) × ((kp + kq) * 65535 ≤ base) × (max ≤ 4095) ⌝ }
+    ensures { λ r. ⌜ r ≡ letterOfSum 262144 max (ky * y + base - (kp * p + kq * q)) ⌝ }
 {
     let taken = (kp as u32) * (p as u32) + (kq as u32) * (q as u32);
     qrshr16((ky as u32) * (y as u32) + base - taken, max)
 }
 
-pub fn pixel16(k: Kernel, y: u16, p: u16, q: u16) -> Letters16
+// The letters of a pixel of any samples.
+pub fn pixel16(k: Kernel, y: u16, p: u16, q: u16) -> Letters
     requires { ⌜ Words k ⌝ }
-    ensures { λ r. ⌜ r ≡ record { first = firstOf k y p; green = greenOf k y p q; third = thirdOf k y q } ⌝ }
+    ensures { λ r. ⌜ r ≡ lettersAt k y p q ⌝ }
 {
-    Letters16 {
-        first: outer16(k.y, k.first, k.base_first, k.max, y, p),
-        green: inner16(
-            k.y,
-            k.green_first,
-            k.green_third,
-            k.base_green,
-            k.max,
-            y,
-            p,
-            q,
-        ),
-        third: outer16(k.y, k.third, k.base_third, k.max, y, q),
+    let max = k.max;
+    let a = outer16(k.y, k.first, k.base_first, max, y, p);
+    let b = inner16(
+        k.y,
+        k.green_first,
+        k.green_third,
+        k.base_green,
+        max,
+        y,
+        p,
+        q,
+    );
+    let c = outer16(k.y, k.third, k.base_third, max, y, q);
+    joined(a, b, c)
+}
+
+// ---- counts
+
+// Two counts together.
+pub fn both(a: Clipped, b: Clipped) -> Clipped
+    requires { ⌜ (a .below + b .below ≤ 4294967295) × (a .above + b .above ≤ 4294967295) ⌝ }
+    ensures { λ r. ⌜ r ≡ together a b ⌝ }
+{
+    Clipped {
+        below: a.below + b.below,
+        above: a.above + b.above,
+    }
+}
+
+// The counts of words that each hold how many were below 0, and 256 times how many were above the largest.
+pub fn counted(words: &[u16]) -> Clipped
+    requires { ⌜ (length (now words) ≤ 512) × ((j : ℕ) → j < length (now words) → (at (now words) j % 256 ≤ 6) × (at (now words) j / 256 ≤ 6)) ⌝ }
+    ensures { λ r. ⌜ r ≡ record { below = total (λ j. at (now (words .entry)) j % 256) (length (now (words .entry))); above = total (λ j. at (now (words .entry)) j / 256) (length (now (words .entry))) } ⌝ }
+{
+    let n = words.len();
+    let mut below: u16 = 0;
+    let mut above: u16 = 0;
+    let mut j: usize = 0;
+    while j < n {
+        below += words[j] % 256;
+        above += words[j] / 256;
+        j += 1;
+    }
+    Clipped {
+        below: below as u32,
+        above: above as u32,
     }
 }
 
 // ---- blends
-
-// Chroma at the left and at the right pixel of a pair: a and b are the near row's samples, c and e the far row's.
-pub fn left8(a: u8, b: u8, c: u8, e: u8) -> u8
-    ensures { λ r. ⌜ r ≡ rounded (9 * a + 3 * b + 3 * c + e) ⌝ }
-{
-    ((9 * (a as u16) + 3 * (b as u16) + 3 * (c as u16) + (e as u16) + 8) / 16) as u8
-}
-
-pub fn right8(a: u8, b: u8, c: u8, e: u8) -> u8
-    ensures { λ r. ⌜ r ≡ rounded (3 * a + 9 * b + c + 3 * e) ⌝ }
-{
-    ((3 * (a as u16) + 9 * (b as u16) + (c as u16) + 3 * (e as u16) + 8) / 16) as u8
-}
 
 // Chroma of the tail: three quarters of a and one of c.
 pub fn tail8(a: u8, c: u8) -> u8
@@ -219,5 +333,34 @@ pub fn cr_tail16(near: u16, far: u16, mode: YuvMode) -> u16
     match mode {
         YuvMode::AsSource => tail16(far, near),
         YuvMode::Matched => tail16(near, far),
+    }
+}
+
+// ---- groups of pairs
+
+// `eights` times eight pairs, from pair `from` on.
+pub struct Span {
+    pub from: usize,
+    pub eights: usize,
+}
+
+// The next group where `done` of at least 8 pairs are done: at most 256 pairs. It reaches back over up to 7 of them, so that it has eights
+// only; the first group, which has nothing to reach back over, leaves the rest to the second.
+pub fn next_span(done: usize, pairs: usize) -> Span
+    requires { ⌜ (done < pairs) × (8 ≤ pairs) × (done < 8 → done ≡ 0) ⌝ }
+    ensures { λ r. ⌜ (r .from ≤ done) × (done < r .from + 8 * r .eights) × (r .from + 8 * r .eights ≤ pairs) × (r .eights ≤ 32) ⌝ }
+{
+    let left = pairs - done;
+    let n = if left < 256 { left } else { 256 };
+    if done == 0 {
+        return Span {
+            from: 0,
+            eights: n / 8,
+        };
+    }
+    let eights = (n + 7) / 8;
+    Span {
+        from: done + n - 8 * eights,
+        eights,
     }
 }

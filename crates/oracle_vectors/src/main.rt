@@ -1,15 +1,16 @@
 // Replays stored answers of the Rust through the public entries, and prints how many were compared and how many differ.
-// The list is the file `stdin` beside src/: a line of column names, then a line of 34 numbers for each call. tests/oracle made it by
+// The list is the file `stdin` beside src/: a line of column names, then a line of 36 numbers for each call. tests/oracle made it by
 // running the Rust: cargo run --offline --release --bin vectors.
 // Columns: 0 to 6 the codes; 7, 8 the bits of kr and kb; 9, 10 the sides; 11 to 14 the strides of Y, U, V and the destination; 15 to 18
-// their lengths; 19 to 21 how they are filled. Then the answer: 22 to 24 number, expected, received; 25 a sum over every destination
-// element after the call, kept ones included; 26 to 33 the settings used. The Rust has one name for questions 9 to 12: there the number
-// is that of the first "no". Samples in the high bits (packing 1) were divided for the Rust, and stand undivided here. In matched mode
-// (mode 1) the answer is that of the second reading of document 02 in tests/oracle, since the Rust has none.
+// their lengths; 19 to 21 how they are filled. Then the answer: 22 to 24 number, expected, received; 25, 26 below and above; 27 a sum
+// over every destination element after the call, kept ones included; 28 to 35 the settings used. The Rust has one name for questions 9
+// to 12: there the number is that of the first "no". Samples in the high bits (packing 1) were divided for the Rust, and stand undivided
+// here. Below and above, and in matched mode (mode 1) the whole answer, are those of the second reading of documents 01 and 02 in
+// tests/oracle: the Rust does not count, and has no such mode.
 ghost use Prim.Native.Nat.{_≤_};
 use libc::STDIN_FILENO;
 use libc::STDOUT_FILENO;
-use yuv_error::Told;
+use yuv_error::Report;
 use yuv_support::Codes;
 use yuv_support::YuvPlanarImage;
 
@@ -38,10 +39,10 @@ fn number(list: &[u8], from: usize) -> Column {
 }
 
 // The columns of a line, and the place after it.
-fn read_row(list: &[u8], from: usize, row: &mut [u64; 34]) -> usize {
+fn read_row(list: &[u8], from: usize, row: &mut [u64; 36]) -> usize {
     let mut at = from;
     let mut column: usize = 0;
-    while column < 34 {
+    while column < 36 {
         let n = number(list, at);
         row[column] = n.value;
         at = n.next;
@@ -62,7 +63,7 @@ fn weight(bits: u64) -> f32 {
     0.0
 }
 
-fn codes_of(row: &[u64; 34]) -> Codes {
+fn codes_of(row: &[u64; 36]) -> Codes {
     Codes {
         depth: narrow(row[0]),
         sampling: narrow(row[1]),
@@ -76,7 +77,7 @@ fn codes_of(row: &[u64; 34]) -> Codes {
     }
 }
 
-fn image_of(row: &[u64; 34]) -> YuvPlanarImage {
+fn image_of(row: &[u64; 36]) -> YuvPlanarImage {
     YuvPlanarImage {
         width: narrow(row[9]),
         height: narrow(row[10]),
@@ -162,16 +163,18 @@ fn sum16(buffer: &[u16]) -> u64 {
     sum
 }
 
-// Whether an answer and the sum of the destination are those of the Rust.
-fn is_answer(row: &[u64; 34], answer: Told, sum: u64) -> bool {
+// Whether an answer and the sum of the destination are those of the line.
+fn is_answer(row: &[u64; 36], answer: Report, sum: u64) -> bool {
     answer.number == row[22]
         && answer.expected == row[23]
         && answer.received == row[24]
-        && sum == row[25]
+        && answer.below == row[25]
+        && answer.above == row[26]
+        && sum == row[27]
 }
 
-// Whether the conversion of a line answers as the Rust did. The buffers have the lengths that the line says.
-fn replay8(row: &[u64; 34], y: &mut [u8], u: &mut [u8], v: &mut [u8], rgb: &mut [u8]) -> bool {
+// Whether the conversion of a line has the line's answer. The buffers have the lengths that the line says.
+fn replay8(row: &[u64; 36], y: &mut [u8], u: &mut [u8], v: &mut [u8], rgb: &mut [u8]) -> bool {
     let after_y = fill8(y, row[19], row[20], row[21]);
     let after_u = fill8(u, after_y, row[20], row[21]);
     let after_v = fill8(v, after_u, row[20], row[21]);
@@ -185,10 +188,10 @@ fn replay8(row: &[u64; 34], y: &mut [u8], u: &mut [u8], v: &mut [u8], rgb: &mut 
         rgb,
         narrow(row[14]),
     );
-    is_answer(row, yuv_error::told_of(answer), sum8(rgb))
+    is_answer(row, yuv_error::report_of(answer), sum8(rgb))
 }
 
-fn replay16(row: &[u64; 34], y: &mut [u16], u: &mut [u16], v: &mut [u16], rgb: &mut [u16]) -> bool {
+fn replay16(row: &[u64; 36], y: &mut [u16], u: &mut [u16], v: &mut [u16], rgb: &mut [u16]) -> bool {
     let after_y = fill16(y, row[19], row[20], row[21]);
     let after_u = fill16(u, after_y, row[20], row[21]);
     let after_v = fill16(v, after_u, row[20], row[21]);
@@ -202,11 +205,11 @@ fn replay16(row: &[u64; 34], y: &mut [u16], u: &mut [u16], v: &mut [u16], rgb: &
         rgb,
         narrow(row[14]),
     );
-    is_answer(row, yuv_error::told_of(answer), sum16(rgb))
+    is_answer(row, yuv_error::report_of(answer), sum16(rgb))
 }
 
 // The same, with room for the four buffers.
-fn is_same8(row: &[u64; 34]) -> bool {
+fn is_same8(row: &[u64; 36]) -> bool {
     let mut y = [0u8; 1024];
     let mut u = [0u8; 1024];
     let mut v = [0u8; 1024];
@@ -224,7 +227,7 @@ fn is_same8(row: &[u64; 34]) -> bool {
     )
 }
 
-fn is_same16(row: &[u64; 34]) -> bool {
+fn is_same16(row: &[u64; 36]) -> bool {
     let mut y = [0u16; 1024];
     let mut u = [0u16; 1024];
     let mut v = [0u16; 1024];
@@ -242,22 +245,22 @@ fn is_same16(row: &[u64; 34]) -> bool {
     )
 }
 
-// Whether the settings used are those of the Rust.
-fn is_settings(row: &[u64; 34]) -> bool {
+// Whether the settings used are those of the line.
+fn is_settings(row: &[u64; 36]) -> bool {
     let s = settings_used::settings_used(codes_of(row));
     s.number == 0
-        && s.max as u64 == row[26]
-        && s.bias_y as u64 == row[27]
-        && s.bias_uv as u64 == row[28]
-        && s.y as u64 == row[29]
-        && s.cr as u64 == row[30]
-        && s.cb as u64 == row[31]
-        && s.g1 as u64 == row[32]
-        && s.g2 as u64 == row[33]
+        && s.max as u64 == row[28]
+        && s.bias_y as u64 == row[29]
+        && s.bias_uv as u64 == row[30]
+        && s.y as u64 == row[31]
+        && s.cr as u64 == row[32]
+        && s.cb as u64 == row[33]
+        && s.g1 as u64 == row[34]
+        && s.g2 as u64 == row[35]
 }
 
 // 1 where a line's answer differs, else 0.
-fn different(row: &[u64; 34]) -> u64
+fn different(row: &[u64; 36]) -> u64
     ensures { λ r. ⌜ r ≤ 1 ⌝ }
 {
     if !is_settings(row) {
@@ -277,7 +280,7 @@ fn different(row: &[u64; 34]) -> u64
 
 // The names are read as a line that is not compared. A line takes at least a byte, so the list has no more lines than bytes.
 fn replay_all(list: &[u8]) {
-    let mut row = [0u64; 34];
+    let mut row = [0u64; 36];
     let mut at = read_row(list, 0, &mut row);
     let mut compared: u64 = 0;
     let mut differing: u64 = 0;

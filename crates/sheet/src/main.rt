@@ -1,4 +1,4 @@
-// The sheet of document 01: reads standard input and writes a table of red, green and blue, or a refusal.
+// The sheet of document 01: reads standard input and writes a table of red, green and blue with what was clipped, or a refusal.
 use libc::STDIN_FILENO;
 use libc::STDOUT_FILENO;
 

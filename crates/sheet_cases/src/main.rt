@@ -83,6 +83,10 @@ fn accepted() {
         b"12 1 0 1 5 2 1\n65535 4096\n65535\n65535\n",
     );
     show_named(
+        b"full BT.601, neutral, clips nothing: ",
+        b"8 0 0 1 0 2 1\n0 255\n128\n128\n",
+    );
+    show_named(
         b"leading zeros: ",
         b"008 00000 0 01 000 00002 1\n00100 050\n00128\n228\n",
     );

@@ -1,5 +1,5 @@
--- The conversion of a small picture is accepted, and each component stands in its destination: what the public entries promise of any call,
--- at planes that are just long enough. One law for both element widths: `known` are the depths of the width.
+-- The conversion of a small picture is accepted, each component stands in its destination, and what was clipped is told of all rows: what the
+-- public entries promise of any call, at planes that are just long enough. One law for both element widths: `known` are the depths of the width.
 -- Assumes nothing.
 use mathlib.Core.Path.{_≡_, refl, sym, ap, _∙_}
 use mathlib.Core.Bool.{true}
@@ -13,6 +13,7 @@ use lib.ListN.{length, take, getD}
 use lib.Seq.{length-take-le}
 use Rattle.yuv_support.specs.declared.YuvSourceChannels.{YuvSourceChannels}
 use Rattle.yuv_support.specs.declared.CbCrInverseTransform.{CbCrInverseTransform}
+use Rattle.yuv_support.specs.declared.Clipped.{Clipped}
 use Rattle.yuv_support.specs.declared.Codes.{Codes}
 use Rattle.yuv_support.specs.declared.YuvPlanarImage.{YuvPlanarImage}
 use Rattle.yuv_support.specs.Settings.{samplingOf, orderOf, matrixOf, lastPacking, among, depths, depths8, depths16}
@@ -20,10 +21,13 @@ use Rattle.yuv_support.specs.Coefficients.{coefficientsOf, usableWith, usable}
 use Rattle.yuv_support.specs.Blend.{frameOf, chromaWidth, chromaHeight}
 use Rattle.yuv_support.specs.Picture.{channelsOf, picture, band}
 use Rattle.yuv_support.specs.Questions.{accepted, verdict, questionsOf, decoded, needed}
-use Rattle.yuv_support.specs.Conversion.{answerTo, destinationAfter}
+use Rattle.yuv_support.specs.Counts.{clippedIn}
+use Rattle.yuv_support.specs.Conversion.{answerTo, clippedAfter, destinationAfter}
 use Rattle.yuv_support.proofs.Picture.{component-in}
 use Rattle.yuv_support.proofs.Rows.{row-fits}
 use Rattle.yuv_support.proofs.Tests.{passed}
+use Rattle.yuv_error.specs.declared.Converted.{Converted}
+use Rattle.yuv_error.specs.Told.{asReport, reported}
 use Rattle.images.proofs.Rows.{chroma-row-exists}
 use Rattle.sheet_values.specs.declared.Values.{Values}
 use Rattle.sheet_values.specs.Values.{codesOf, imageOf, noWeight, lumaCount, chromaCount, widest}
@@ -48,6 +52,9 @@ close-rows : (w h : ℕ) → 1 ≤ h → w * (h - 1) + w ≡ w * h
 close-rows w h l =
     let e : h ≡ suc (h - 1) = omega arith in
     sym (ap (λ (n : ℕ). w * n) e ∙ mul-suc w (h - 1))
+
+counts-same : {a b : Clipped} → a .below ≡ b .below → a .above ≡ b .above → a ≡ b
+counts-same {a} {b} e f = rw (e, f)
 
 module _ {known : List ℕ} {v : Values} (fit : Fit known v) where
   abbrev stride : ℕ
@@ -91,13 +98,24 @@ module _ {known : List ℕ} {v : Values} (fit : Fit known v) where
           named-usable (v .matrix) (coefficientsOf (decoded (codesOf v))) (fit .matrix),
         )
 
+    number-0 : answerTo known (codesOf v) (imageOf v) y u w stride old .number ≡ 0
+    number-0 = ap (λ r. r .number) small-accepted
+
+    small-clipped : (made : Converted)
+        → reported made ≡ asReport (answerTo known (codesOf v) (imageOf v) y u w stride old) (clippedAfter known (codesOf v) (imageOf v) y u w stride old)
+        → made .clipped ≡ clippedIn (decoded (codesOf v)) (frameOf (imageOf v) y u w) 0 (v .height)
+    unfolding clippedAfter
+    small-clipped made e =
+        let t : clippedAfter known (codesOf v) (imageOf v) y u w stride old ≡ clippedIn (decoded (codesOf v)) (frameOf (imageOf v) y u w) 0 (v .height) =
+        rw (eq-eqb _ 0 number-0) in
+        counts-same (ap (λ r. r .below) e ∙ ap (λ c. c .below) t) (ap (λ r. r .above) e ∙ ap (λ c. c .above) t)
+
     small-shows : (new : List ℕ) → new ≡ destinationAfter known (codesOf v) (imageOf v) y u w stride old
         → Shows (decoded (codesOf v)) (frameOf (imageOf v) y u w) new
     unfolding destinationAfter picture
     small-shows new e c row column hr hc =
-        let a : answerTo known (codesOf v) (imageOf v) y u w stride old .number ≡ 0 = ap (λ r. r .number) small-accepted in
         let r = rgb-room in
-        let p : new ≡ band (decoded (codesOf v)) (frameOf (imageOf v) y u w) stride 0 (v .height) old = e ∙ rw (eq-eqb _ 0 a) in
+        let p : new ≡ band (decoded (codesOf v)) (frameOf (imageOf v) y u w) stride 0 (v .height) old = e ∙ rw (eq-eqb _ 0 number-0) in
         rw p
         (component-in (decoded (codesOf v)) (frameOf (imageOf v) y u w) stride 0 (v .height) old (le-refl stride) c row column
         (omega arith) (omega arith) hc
@@ -150,18 +168,34 @@ module _ {known : List ℕ} {v : Values} {y u w : List ℕ} {n m : ℕ} {Y U W :
   pub cr-part : (m ≤ length W) × (m ≡ length (take m W))
   cr-part = part W (d .chroma-count) (chroma-most (d .fit)) (d .cr-long)
 
-  -- what a conversion of them leaves, its other arguments being known by their equations
-  pub planes-shown : {codes : Codes} {image : YuvPlanarImage} {order : YuvSourceChannels} {stride : ℕ} (old : List ℕ) {new : List ℕ}
-      → codes ≡ codesOf v → image ≡ imageOf v → order ≡ orderOf (v .order) → stride ≡ v .width * channelsOf order → length old ≡ 16384
-      → new ≡ destinationAfter known codes image (take n Y) (take m U) (take m W) stride old
-      → Shows (decoded (codesOf v)) (planesFrame v y u w) new
-  planes-shown old {new} ec ei eo es lo e =
-      let ly : length (take n y) ≡ lumaCount v = ap length (sym (d .luma)) ∙ sym (luma-part .1) ∙ d .luma-count in
-      let lu : length (take m u) ≡ chromaCount v = ap length (sym (d .cb)) ∙ sym (cb-part .1) ∙ d .chroma-count in
-      let lw : length (take m w) ≡ chromaCount v = ap length (sym (d .cr)) ∙ sym (cr-part .1) ∙ d .chroma-count in
-      let p : new ≡ destinationAfter known (codesOf v) (imageOf v) (take n y) (take m u) (take m w) (strideOf (orderOf (v .order)) (v .width)) old =
-      e ∙ rw (ec, ei, es, eo, d .luma, d .cb, d .cr) refl in
-      rw (← d .luma-count, ← d .chroma-count) (small-shows (d .fit) (take n y) (take m u) (take m w) old ly lu lw lo new p)
+  -- what a conversion of them leaves and answers, its other arguments being known by their equations
+  module _ {codes : Codes} {image : YuvPlanarImage} {order : YuvSourceChannels} {stride : ℕ} (old : List ℕ)
+      (ec : codes ≡ codesOf v) (ei : image ≡ imageOf v) (eo : order ≡ orderOf (v .order)) (es : stride ≡ v .width * channelsOf order)
+      (lo : length old ≡ 16384) where
+    luma-length : length (take n y) ≡ lumaCount v
+    luma-length = ap length (sym (d .luma)) ∙ sym (luma-part .1) ∙ d .luma-count
+
+    cb-length : length (take m u) ≡ chromaCount v
+    cb-length = ap length (sym (d .cb)) ∙ sym (cb-part .1) ∙ d .chroma-count
+
+    cr-length : length (take m w) ≡ chromaCount v
+    cr-length = ap length (sym (d .cr)) ∙ sym (cr-part .1) ∙ d .chroma-count
+
+    pub planes-shown : {new : List ℕ} → new ≡ destinationAfter known codes image (take n Y) (take m U) (take m W) stride old
+        → Shows (decoded (codesOf v)) (planesFrame v y u w) new
+    planes-shown {new} e =
+        let p : new ≡ destinationAfter known (codesOf v) (imageOf v) (take n y) (take m u) (take m w) (strideOf (orderOf (v .order)) (v .width)) old =
+        e ∙ rw (ec, ei, es, eo, d .luma, d .cb, d .cr) refl in
+        rw (← d .luma-count, ← d .chroma-count)
+        (small-shows (d .fit) (take n y) (take m u) (take m w) old luma-length cb-length cr-length lo new p)
+
+    pub planes-clipped : (made : Converted)
+        → reported made ≡ asReport (answerTo known codes image (take n Y) (take m U) (take m W) stride old) (clippedAfter known codes image (take n Y) (take m U) (take m W) stride old)
+        → made .clipped ≡ clippedIn (decoded (codesOf v)) (planesFrame v y u w) 0 (v .height)
+    planes-clipped made e =
+        rw (← d .luma-count, ← d .chroma-count)
+        (small-clipped (d .fit) (take n y) (take m u) (take m w) old luma-length cb-length cr-length lo made
+        (e ∙ rw (ec, ei, es, eo, d .luma, d .cb, d .cr) refl))
 
 -- ---- the two element widths
 

@@ -1,23 +1,26 @@
 -- Laws of the written picture: its pixels lie in the buffer, its lines have room in the output, and a buffer that shows each component is
--- written as the definition's table (`wrote-shown`).
+-- written as the definition's table (`wrote-shown`). The counts of its last line have at most five digits.
 -- Assumes nothing.
 use mathlib.Core.Path.{_≡_, refl, ap}
 use mathlib.Core.List.{List, _++_}
 use Prim.Native.Nat.{ℕ, suc, _+_, _-_, _*_, _≤_, _<_}
-use native.Mathlib.Nat.{mul-le-mul, mul-le-mul-left, mul-suc, mul-comm}
+use native.Mathlib.Nat.{le-trans, mul-le-mul, mul-le-mul-left, mul-suc, mul-comm}
 use native.Mathlib.Omega.{arith}
 use lib.ListN.{length, length-append}
 use Rattle.yuv_support.specs.declared.YuvSourceChannels.{YuvSourceChannels}
 use Rattle.yuv_support.specs.declared.YuvSourceChannels.the-variants.{Rgb, Rgba, Bgra, Bgr}
 use Rattle.yuv_support.specs.declared.Settings.{Settings}
+use Rattle.yuv_support.specs.declared.Clipped.{Clipped}
 use Rattle.yuv_support.specs.Blend.{Frame}
 use Rattle.yuv_support.specs.Component.{R, G, B}
 use Rattle.yuv_support.specs.Picture.{placeIn, channelsOf}
+use Rattle.yuv_support.specs.Counts.{clippedIn}
 use Rattle.yuv_support.proofs.Picture.{three-or-four-channels}
+use Rattle.yuv_support.proofs.Counts.{band-most}
 use Rattle.sheet_writing.specs.Text.{Wrote}
-use Rattle.sheet_writing.proofs.Write.{number-text-length, joined-length, joined-same}
+use Rattle.sheet_writing.proofs.Write.{wrote-then, number-text-length, joined-length, joined-same}
 use Rattle.sheet_table.specs.declared.Places.{Places}
-use Rattle.sheet_table.specs.Table.{heading, pixelText, pixelLine, rowText, rowsText, table}
+use Rattle.sheet_table.specs.Table.{heading, pixelText, pixelLine, rowText, rowsText, clippedText, table, FiveDigits}
 use Rattle.sheet_table.specs.Shown.{strideOf, placesOf, shownPixel, shownRow, shownRows, Small, Shows}
 
 -- ---- room
@@ -41,6 +44,10 @@ pixel-text-length row column r g b =
       number-text-length g 32,
       number-text-length b 10,
     ))
+
+clipped-text-length : (c : Clipped) → length (clippedText c) ≤ 20
+unfolding clippedText
+clipped-text-length c = simp length-append (omega (arith, number-text-length (c .below) 32, number-text-length (c .above) 10))
 
 pub row-length : (rgb : List ℕ) {p : Places} (row : ℕ) → Small p → length (shownRow rgb p row (p .width)) ≤ 1920
 row-length rgb {p} row small =
@@ -80,18 +87,27 @@ module _ (s : Settings) (f : Frame) (rgb : List ℕ) (shows : Shows s f rgb) whe
       let l = letters (s .order) in
       rw (shows R row column hr hc, rw (l .0) at (shows G row column hr hc), rw (l .1) at (shows B row column hr hc))
 
-  shown-table : heading ++ shownRows rgb (placesOf (s .order) (f .width) (f .height)) (f .height) ≡ table s f
+  shown-table : heading ++ shownRows rgb (placesOf (s .order) (f .width) (f .height)) (f .height) ++ clippedText (clippedIn s f 0 (f .height)) ≡ table s f
   unfolding table
   shown-table =
       let p = placesOf (s .order) (f .width) (f .height) in
-      ap (λ (t : List ℕ). heading ++ t)
+      ap (λ (t : List ℕ). heading ++ t ++ clippedText (clippedIn s f 0 (f .height)))
       (joined-same (λ row. shownRow rgb p row (f .width)) (λ row. rowText s f row (f .width)) (f .height)
       (λ row hr. joined-same (shownPixel rgb p row) (pixelLine s f row) (f .width) (λ column hc. shown-pixel row column hr hc)))
 
--- what `put_table` writes of a picture that is shown
-pub wrote-shown : (s : Settings) (f : Frame) {p : Places} {old new : List ℕ} {next : ℕ} (rgb : List ℕ) → p ≡ placesOf (s .order) (f .width) (f .height)
-    → Shows s f rgb → Wrote old 0 (heading ++ shownRows rgb p (p .height)) new next → Wrote old 0 (table s f) new next
-wrote-shown s f rgb e shows wrote = rw (← shown-table s f rgb shows) (rw e at wrote)
+-- what `put_table` and, after it, `put_clipped` write of a picture that is shown and of what was clipped in it
+pub wrote-shown : (s : Settings) (f : Frame) {p : Places} {c : Clipped} {old mid new : List ℕ} {next last : ℕ} (rgb : List ℕ)
+    → p ≡ placesOf (s .order) (f .width) (f .height) → Shows s f rgb → c ≡ clippedIn s f 0 (f .height)
+    → Wrote old 0 (heading ++ shownRows rgb p (p .height)) mid next → Wrote mid next (clippedText c) new last → Wrote old 0 (table s f) new last
+wrote-shown s f rgb e shows k first second = rw (← shown-table s f rgb shows, ← k) (wrote-then (rw e at first) second)
+
+-- where `put_table` ends, the last line has room
+pub room-after : (rgb : List ℕ) {p : Places} {old new : List ℕ} {next : ℕ} → Small p → Wrote old 0 (heading ++ shownRows rgb p (p .height)) new next
+    → next + 20 ≤ 131072
+room-after rgb {p} small w =
+    let l = joined-length (λ row. shownRow rgb p row (p .width)) 1920 (p .height) (λ row. row-length rgb row small) in
+    let a = length-append heading (shownRows rgb p (p .height)) in
+    omega (arith, small .height, w .place)
 
 -- ---- the table's length
 
@@ -102,4 +118,17 @@ table-length s f hw hh =
     λ r. let l = joined-length (pixelLine s f r) 30 (f .width) (λ c. pixel-text-length r c _ _ _) in omega arith in
     let rows = joined-length (λ r. rowText s f r (f .width)) 1920 (f .height) row in
     let l = length-append heading (rowsText s f (f .height)) in
+    let last = clipped-text-length (clippedIn s f 0 (f .height)) in
+    let m = length-append (heading ++ rowsText s f (f .height)) (clippedText (clippedIn s f 0 (f .height))) in
     omega arith
+
+-- ---- the digits of the last line
+
+small-sides-most : (w n : ℕ) → w ≤ 64 → n ≤ 64 → 3 * w * n ≤ 12288
+small-sides-most w n hw hn = mul-le-mul (let a : 3 * w ≤ 192 = omega arith in a) hn
+
+pub five-digits : FiveDigits
+five-digits s f hw hh =
+    let b = band-most s f 0 (f .height) in
+    let m = small-sides-most (f .width) (f .height) hw hh in
+    (le-trans (b .0) m, le-trans (b .1) m)

@@ -1,4 +1,4 @@
-// The table of a small picture: a heading, and a line for each pixel, written from the picture's buffer.
+// The table of a small picture: a heading, a line for each pixel, written from the picture's buffer, and a last line of what was clipped.
 // Each function that writes answers the place after what it wrote.
 ghost use mathlib.Core.Path.{_≡_};
 ghost use mathlib.Core.List.{_++_};
@@ -6,8 +6,9 @@ ghost use Prim.Native.Nat.{_+_, _≤_, _<_};
 ghost use Rattle.yuv_support.specs.Component.{R};
 ghost use Rattle.yuv_support.specs.Picture.{placeIn};
 ghost use Rattle.sheet_writing.specs.Text.{Wrote};
-ghost use Rattle.sheet_table.specs.Table.{heading, pixelText};
+ghost use Rattle.sheet_table.specs.Table.{heading, pixelText, clippedText};
 ghost use Rattle.sheet_table.specs.Shown.{shownPixel, shownRow, shownRows, Small, placesOf};
+use yuv_support::Clipped;
 use yuv_support::YuvSourceChannels;
 
 // Where the components of a picture's pixels stand in its buffer.
@@ -121,4 +122,14 @@ pub fn put_table(out: &mut [u8; 131072], rgb: &[u16; 16384], p: Places) -> usize
 {
     let at = sheet_writing::put_bytes(out, 0, b"row column r g b\n");
     put_rows(out, at, rgb, p)
+}
+
+// The last line, of what was clipped.
+pub fn put_clipped(out: &mut [u8; 131072], at: usize, c: Clipped) -> usize
+    requires { ⌜ at + 20 ≤ 131072 ⌝ }
+    ensures { λ e. ⌜ Wrote (now (out .entry)) at (clippedText c) (now (out .exit)) e ⌝ }
+{
+    let after_word = sheet_writing::put_bytes(out, at, b"clipped ");
+    let after_below = sheet_writing::put_number(out, after_word, c.below, 32);
+    sheet_writing::put_number(out, after_below, c.above, 10)
 }

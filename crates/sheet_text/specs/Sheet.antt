@@ -1,8 +1,8 @@
--- Document 01, "Sheet program": the output of `sheet`, from its input.
+-- Document 01, "Sheet program", with the last line of document 02's slip 3: the output of `sheet`, from its input.
 -- Parts of it stand beside the functions that make them:
 --   sheet_numbers/specs/Numbers.antt   numbers and lines, as they are read
 --   sheet_values/specs/Values.antt     what the seven values of the second line stand for, and the part of question 15 that asks about them
---   sheet_table/specs/Table.antt       the heading and the lines of the pixels
+--   sheet_table/specs/Table.antt       the heading, the lines of the pixels and the last line, of what was clipped
 --   sheet_writing/specs/Text.antt      decimal numbers, as they are written
 -- Definitions only.
 use Prim.Native.Nat.{ℕ}

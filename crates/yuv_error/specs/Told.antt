@@ -1,6 +1,7 @@
 -- Number, expected and received of each answer, as document 01 numbers the questions.
 -- Definitions only.
 use Prim.Native.Nat.{ℕ, _+_}
+use Rattle.yuv_support.specs.declared.Clipped.{Clipped}
 use Rattle.yuv_support.specs.Questions.{Verdict, accepted, refused}
 use Rattle.yuv_error.specs.declared.MismatchedSize.{MismatchedSize}
 use Rattle.yuv_error.specs.declared.YuvError.{YuvError}
@@ -22,6 +23,8 @@ use Rattle.yuv_error.specs.declared.YuvError.the-variants.{
   RowOutside,
 }
 use Rattle.yuv_error.specs.declared.Told.{Told}
+use Rattle.yuv_error.specs.declared.Converted.{Converted}
+use Rattle.yuv_error.specs.declared.Report.{Report}
 use Rattle.yuv_error.specs.declared.PlaneFault.{PlaneFault}
 use Rattle.yuv_error.specs.declared.PlaneFault.the-variants.{Nothing, Stride, Length}
 
@@ -49,6 +52,13 @@ told RowOutside = refused 14
 -- the three numbers as the struct that is handed out
 abbrev pub asTold : Verdict → Told
 asTold v = record { number = v .number; expected = v .expected; received = v .received }
+
+-- number, expected, received, below and above of a conversion's answer
+abbrev pub asReport : Verdict → Clipped → Report
+asReport v c = record { number = v .number; expected = v .expected; received = v .received; below = c .below; above = c .above }
+
+abbrev pub reported : Converted → Report
+reported c = asReport (told (c .answer)) (c .clipped)
 
 -- the answer of a plane whose first question has this number
 unfoldable pub faultTold : ℕ → PlaneFault → Verdict

@@ -4,7 +4,8 @@ ghost use mathlib.Core.Path.{_≡_};
 ghost use Prim.Native.Nat.{ℕ, _≤_, _*_};
 ghost use lib.Dec.{eqb};
 ghost use Rattle.yuv_support.specs.Questions.{verdict, extent, sides, needed, destination, plane};
-ghost use Rattle.yuv_error.specs.Told.{told, faultTold, asTold};
+ghost use Rattle.yuv_error.specs.Told.{told, faultTold, asTold, reported};
+use yuv_support::Clipped;
 
 // What was needed and what was there.
 pub struct MismatchedSize {
@@ -51,6 +52,22 @@ pub struct Told {
     pub number: u64,
     pub expected: u64,
     pub received: u64,
+}
+
+// The answer of a conversion: what was answered, and what was clipped.
+pub struct Converted {
+    pub answer: YuvError,
+    pub clipped: Clipped,
+}
+
+// The same as numbers.
+#[repr(C)]
+pub struct Report {
+    pub number: u64,
+    pub expected: u64,
+    pub received: u64,
+    pub below: u64,
+    pub above: u64,
 }
 
 fn sizes(expected: u64, received: u64) -> MismatchedSize
@@ -106,6 +123,22 @@ pub fn told_of(e: YuvError) -> Told
         YuvError::VPlaneSizeMismatch(size) => mismatched(12, size),
         YuvError::UnusableWeights => refused(13),
         YuvError::RowOutside => refused(14),
+    }
+}
+
+// Number, expected, received, below and above of a conversion's answer.
+pub fn report_of(c: Converted) -> Report
+    ensures { λ r. ⌜ r ≡ reported c ⌝ }
+{
+    let answer = c.answer;
+    let clipped = c.clipped;
+    let t = told_of(answer);
+    Report {
+        number: t.number,
+        expected: t.expected,
+        received: t.received,
+        below: clipped.below as u64,
+        above: clipped.above as u64,
     }
 }
 

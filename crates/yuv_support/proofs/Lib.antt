@@ -13,3 +13,4 @@ pub mod Picture
 pub mod Questions
 pub mod Conversion
 pub mod Mode
+pub mod Counts

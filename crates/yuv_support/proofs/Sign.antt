@@ -1,7 +1,7 @@
 -- A whole number with a sign as the difference a − b of two natural numbers, so that `omega`, which reads natural numbers only, proves
 -- facts about signed sums. The subtraction of natural numbers stops at 0, and is the lower clamp.
 -- Assumes nothing.
-use mathlib.Core.Path.{_≡_, ap}
+use mathlib.Core.Path.{_≡_, ap, _∙_}
 use mathlib.Core.Bool.{Bool, true, false, not, cond}
 use Prim.Native.Nat.{ℕ, zero, suc, _+_, _-_, _*_, _/_, _≤_, _<_, min}
 use native.Mathlib.Nat.{zero-div}
@@ -11,6 +11,7 @@ use lib.IntN.{ℤ, pos, negsuc, subℕ, negℤ, _+ℤ_, _-ℤ_, _*ℤ_}
 use lib.Signed.{shrZ}
 use Rattle.yuv_support.specs.declared.CbCrInverseTransform.{CbCrInverseTransform}
 use Rattle.yuv_support.specs.Component.{Component, R, G, B, step, clamp, sumOf, quotient}
+use Rattle.yuv_support.specs.Counts.{isBelow, isAbove}
 
 -- a − b is z, by the sign of z
 abbrev Difference : ℕ → ℕ → ℤ → Type 0
@@ -84,6 +85,34 @@ shifted-is m k {a} {b} {z} h = divided m k a b z (h .is)
 
 pub quotient-is : (m : ℕ) {a b : ℕ} {z : ℤ} → Is a b z → clamp m (quotient z) ≡ min ((a + 4096 - b) / 8192) m
 quotient-is m {a} {b} h = shifted-is m 8192 (shift-is (a + 4096) b (omega arith) (plus h (nat 4096)))
+
+-- ---- below 0 and above m after a division, where `sum` is o·8,192 above a − b
+
+below-by : (o sum a b : ℕ) (z : ℤ) → sum + b ≡ a + o * 8192 → Difference a b z → isBelow (shrZ z 8192) ≡ min (o - sum / 8192) 1
+below-by o sum a b (pos c) e h = omega arith
+below-by o sum a b (negsuc c) e h = omega arith
+
+more-than : (m n : ℕ) → cond (ltb m n) 1 0 ≡ min (n - m) 1
+more-than m n = go (ltb m n) (ltb→lt m n) (nltb→le m n)
+  where
+    go : (t : Bool) → (T t → m < n) → (T (not t) → n ≤ m) → cond t 1 0 ≡ min (n - m) 1
+    go true below above = let h = below tt in omega arith
+    go false below above = let h = above tt in omega arith
+
+above-by : (o m sum a b : ℕ) (z : ℤ) → sum + b ≡ a + o * 8192 → Difference a b z → isAbove m (shrZ z 8192) ≡ min (sum / 8192 - (o + m)) 1
+above-by o m sum a b (pos c) e h = more-than m (c / 8192) ∙ ap (λ (x : ℕ). min x 1) (let d : c / 8192 - m ≡ sum / 8192 - (o + m) = omega arith in d)
+above-by o m sum a b (negsuc c) e h = omega arith
+
+-- the same of a quotient, which adds 4,096
+module _ (o sum : ℕ) {a b : ℕ} {z : ℤ} (e : sum + b ≡ a + o * 8192 + 4096) (h : Is a b z) where
+  with-half : Is (a + 4096) b (z +ℤ pos 4096)
+  with-half = shift-is (a + 4096) b (omega arith) (plus h (nat 4096))
+
+  pub quotient-below : isBelow (quotient z) ≡ min (o - sum / 8192) 1
+  quotient-below = below-by o sum (a + 4096) b (z +ℤ pos 4096) (omega arith) (with-half .is)
+
+  pub quotient-above : (m : ℕ) → isAbove m (quotient z) ≡ min (sum / 8192 - (o + m)) 1
+  quotient-above m = above-by o m sum (a + 4096) b (z +ℤ pos 4096) (omega arith) (with-half .is)
 
 -- ---- a component's sum
 

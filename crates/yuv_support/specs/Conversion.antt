@@ -8,10 +8,12 @@ use Prim.Native.Nat.{ℕ, _<_}
 use lib.Dec.{T, eqb}
 use lib.ListN.{length, getD}
 use Rattle.yuv_support.specs.declared.Codes.{Codes}
+use Rattle.yuv_support.specs.declared.Clipped.{Clipped}
 use Rattle.yuv_support.specs.declared.Settings.{Settings}
 use Rattle.yuv_support.specs.declared.YuvPlanarImage.{YuvPlanarImage}
 use Rattle.yuv_support.specs.Blend.{Frame, frameOf}
 use Rattle.yuv_support.specs.Picture.{picture, pixelOf, pixelIn, OfNoPixel}
+use Rattle.yuv_support.specs.Counts.{clippedIn, unclipped}
 use Rattle.yuv_support.specs.Questions.{Verdict, Request, extent, verdict, decoded, conversionQuestions}
 use Rattle.yuv_support.specs.Distance.{measured, Faithful}
 
@@ -33,6 +35,11 @@ answerTo known codes image y u v stride rgb = verdict (conversionQuestions known
 unfoldable pub destinationAfter : List ℕ → Codes → YuvPlanarImage → List ℕ → List ℕ → List ℕ → ℕ → List ℕ → List ℕ
 destinationAfter known codes image y u v stride rgb =
     cond (eqb (answerTo known codes image y u v stride rgb .number) 0) (picture (decoded codes) (frameOf image y u v) stride rgb) rgb
+
+-- what was clipped: in all rows where the call is accepted, and else nothing
+unfoldable pub clippedAfter : List ℕ → Codes → YuvPlanarImage → List ℕ → List ℕ → List ℕ → ℕ → List ℕ → Clipped
+clippedAfter known codes image y u v stride rgb =
+    cond (eqb (answerTo known codes image y u v stride rgb .number) 0) (clippedIn (decoded codes) (frameOf image y u v) 0 (image .height)) unclipped
 
 -- demand 3 of the finished destination `out`, one claim: planes and destination `rgb` are as they stood before the call, and `Asked` is what
 -- part 3 asks of the samples

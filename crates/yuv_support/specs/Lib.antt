@@ -7,3 +7,4 @@ pub mod Questions
 pub mod Distance
 pub mod Conversion
 pub mod Mode
+pub mod Counts

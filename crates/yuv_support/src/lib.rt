@@ -117,6 +117,12 @@ pub struct YuvPlanarImage {
     pub v_stride: u32,
 }
 
+// How many components of pixels lay below 0, and how many above the largest code, before they were clamped.
+pub struct Clipped {
+    pub below: u32,
+    pub above: u32,
+}
+
 pub fn sampling_of(code: u32) -> YuvChromaSubsampling
     ensures { λ r. ⌜ r ≡ samplingOf code ⌝ }
 {

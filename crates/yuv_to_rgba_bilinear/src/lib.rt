@@ -4,12 +4,14 @@ ghost use mathlib.Core.Path.{_≡_};
 ghost use Rattle.yuv_support.specs.Settings.{depths8, among};
 ghost use Rattle.yuv_support.specs.Blend.{frameOf};
 ghost use Rattle.yuv_support.specs.Picture.{picture};
+ghost use Rattle.yuv_support.specs.Counts.{clippedIn};
 ghost use Rattle.yuv_support.specs.Questions.{decoded};
 ghost use Rattle.yuv_support.specs.Distance.{AnySamples};
-ghost use Rattle.yuv_support.specs.Conversion.{answerTo, destinationAfter, Demand3After};
-ghost use Rattle.yuv_error.specs.Told.{told};
+ghost use Rattle.yuv_support.specs.Conversion.{answerTo, clippedAfter, destinationAfter, Demand3After};
+ghost use Rattle.yuv_error.specs.Told.{asReport, reported};
 use images::Lengths;
-use yuv_error::YuvError;
+use yuv_error::Converted;
+use yuv_support::Clipped;
 use yuv_support::Codes;
 use yuv_support::YuvPlanarImage;
 
@@ -29,13 +31,14 @@ fn convert(
     v: &[u8],
     rgb: &mut [u8],
     rgb_stride: u32,
-)
+) -> Clipped
     requires { ⌜ answerTo depths8 codes image (now y) (now u) (now v) «rgb_stride» (now rgb) .number ≡ 0 ⌝ }
     ensures { λ _. ⌜ now (rgb .exit) ≡ picture (decoded codes) (frameOf image (now (y .entry)) (now (u .entry)) (now (v .entry))) «rgb_stride» (now (rgb .entry)) ⌝ }
+    ensures { λ c. ⌜ c ≡ clippedIn (decoded codes) (frameOf image (now (y .entry)) (now (u .entry)) (now (v .entry))) 0 (image .height) ⌝ }
 {
     let s = yuv_support::decode(codes);
     let k = kernel::settings_kernel(s);
-    convert8::convert_rows(rgb, y, u, v, s, image, rgb_stride, k, 0, image.height);
+    convert8::convert_rows(rgb, y, u, v, s, image, rgb_stride, k, 0, image.height)
 }
 
 // Codes, sides and strides are judged with the lengths of the four buffers by questions 1 to 13, in that order; the first "no" is the
@@ -48,8 +51,8 @@ pub fn yuv_to_rgbx_bilinear(
     v: &[u8],
     rgb: &mut [u8],
     rgb_stride: u32,
-) -> YuvError
-    ensures { λ r. ⌜ told r ≡ answerTo depths8 codes image (now (y .entry)) (now (u .entry)) (now (v .entry)) «rgb_stride» (now (rgb .entry)) ⌝ }
+) -> Converted
+    ensures { λ r. ⌜ reported r ≡ asReport (answerTo depths8 codes image (now (y .entry)) (now (u .entry)) (now (v .entry)) «rgb_stride» (now (rgb .entry))) (clippedAfter depths8 codes image (now (y .entry)) (now (u .entry)) (now (v .entry)) «rgb_stride» (now (rgb .entry))) ⌝ }
     ensures { λ r. ⌜ now (rgb .exit) ≡ destinationAfter depths8 codes image (now (y .entry)) (now (u .entry)) (now (v .entry)) «rgb_stride» (now (rgb .entry)) ⌝ }
     ensures { λ r. ⌜ Demand3After AnySamples depths8 codes image (now (y .entry)) (now (u .entry)) (now (v .entry)) «rgb_stride» (now (rgb .entry)) (now (rgb .exit)) ⌝ }
 {
@@ -62,7 +65,9 @@ pub fn yuv_to_rgbx_bilinear(
     let known = is_known_depth(codes.depth);
     let answer = images::check_conversion(codes, image, lengths, rgb_stride, known);
     if yuv_error::is_accepted(answer) {
-        convert(codes, image, y, u, v, rgb, rgb_stride);
+        let clipped = convert(codes, image, y, u, v, rgb, rgb_stride);
+        return Converted { answer, clipped };
     }
-    answer
+    let clipped = Clipped { below: 0, above: 0 };
+    Converted { answer, clipped }
 }

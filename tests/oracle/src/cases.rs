@@ -27,12 +27,14 @@ impl Element for u16 {
 }
 
 /// Samples up to M, up to the element's width, or from the ends of both and the biases. In the high
-/// bits any element is a sample up to M, and the ends have only 0s or only 1s below them.
+/// bits any element is a sample up to M, and the ends have only 0s or only 1s below them. Mixed
+/// samples are up to M, but for a few around 4,096 or far above it.
 #[derive(Clone, Copy, Debug, PartialEq)]
 pub enum Samples {
     Within,
     Any,
     Extreme,
+    Mixed,
 }
 
 pub const SAMPLES: [Samples; 3] = [Samples::Within, Samples::Any, Samples::Extreme];
@@ -59,11 +61,21 @@ pub fn planes<T: Element>(random: &mut Random, kind: Samples, q: &Request) -> Pl
     let ends = [0, 1, bias_y, bias_c - 1, bias_c, max - 1, max, u16::MAX];
     let below = [0, (1 << shift) - 1];
     let element = |bits: u16| match kind {
-        Samples::Within if shift == 0 => bits & max,
-        Samples::Within | Samples::Any => bits,
+        Samples::Within | Samples::Mixed if shift == 0 => bits & max,
+        Samples::Within | Samples::Mixed | Samples::Any => bits,
         Samples::Extreme => ends[usize::from(bits % 8)] << shift | below[usize::from(bits / 8 % 2)],
     };
-    [q.y, q.u, q.v].map(|plane| elements(random, plane.len, element))
+    [q.y, q.u, q.v].map(|plane| {
+        let mut samples = elements(random, plane.len, element);
+        if kind == Samples::Mixed && plane.len > 0 {
+            for _ in 0..random.below(4) {
+                let large = random.between(4096, u32::from(u16::MAX)) as u16;
+                let at = random.below(plane.len as u32) as usize;
+                samples[at] = T::low(random.pick(&[4095, 4096, u16::MAX, large]));
+            }
+        }
+        samples
+    })
 }
 
 /// How far a stride and a length lie above their limits.

@@ -1,22 +1,40 @@
 //! Compares the proved library with the scalar Rust of yuvutils-rs, with document 01's questions and,
-//! in matched mode, with a second reading of the documents. The settings `packing` and `mode` are
-//! those of document 02, slips 1 and 4.
+//! where the Rust has nothing to compare, with a second reading of the documents: matched mode, and
+//! what was clipped. The settings `packing` and `mode` and the counts `below` and `above` are those of
+//! document 02, slips 1, 4 and 3.
 
 pub mod cases;
 pub mod library;
-pub mod matched;
 pub mod model;
 pub mod random;
+pub mod reading;
 pub mod reference;
 pub mod tally;
 
-/// What a call answers: 0, 0, 0, or the first question that got a "no".
+/// What a conversion answers: 0, 0, 0 and what was clipped, or the first question that got a "no",
+/// and then 0 and 0.
 #[repr(C)]
 #[derive(Clone, Copy, Debug, Default, PartialEq, Eq)]
 pub struct Answer {
     pub number: u64,
     pub expected: u64,
     pub received: u64,
+    pub below: u64,
+    pub above: u64,
+}
+
+/// How many colour components lay below 0 and above the largest code before they were clamped.
+#[derive(Clone, Copy, Debug, Default, PartialEq, Eq)]
+pub struct Clipped {
+    pub below: u64,
+    pub above: u64,
+}
+
+impl Answer {
+    /// The answer with these counts.
+    pub fn with(self, Clipped { below, above }: Clipped) -> Answer {
+        Answer { below, above, ..self }
+    }
 }
 
 /// The settings that a conversion uses; all 0 beside a number other than 0.

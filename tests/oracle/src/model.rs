@@ -6,7 +6,7 @@ use crate::{Answer, Codes, Extent, Part, Request, SettingsUsed};
 type Asked = Result<(), Answer>;
 
 fn ask(number: u64, yes: bool, expected: u64, received: u64) -> Asked {
-    let no = Answer { number, expected, received };
+    let no = Answer { number, expected, received, ..Default::default() };
     if yes {
         Ok(())
     } else {
@@ -18,7 +18,7 @@ fn answer(asked: Asked) -> Answer {
     asked.err().unwrap_or_default()
 }
 
-/// Questions 1 to 13, for planes of `bits` wide elements.
+/// Questions 1 to 13, for planes of `bits` wide elements; no counts.
 pub fn conversion(bits: u32, request: &Request) -> Answer {
     answer(conversion_asked(bits, request))
 }
@@ -112,7 +112,7 @@ pub fn computed(depth: u32, range: u32, kr: f32, kb: f32) -> [i64; 5] {
 /// Questions 1, 2 and 13, of the codes alone; no values.
 pub fn settings(c: &Codes) -> SettingsUsed {
     let asked = codes(&[8, 10, 12], c).and_then(|_| weights(c));
-    let Answer { number, expected, received } = answer(asked);
+    let Answer { number, expected, received, .. } = answer(asked);
     SettingsUsed { number, expected, received, ..Default::default() }
 }
 
@@ -129,7 +129,7 @@ pub fn chroma_sides(sampling: u32, width: u32, height: u32) -> (u32, u32) {
 
 fn part(asked: Asked, place: impl FnOnce() -> (u64, u64)) -> Part {
     let (start, length) = if asked.is_ok() { place() } else { (0, 0) };
-    let Answer { number, expected, received } = answer(asked);
+    let Answer { number, expected, received, .. } = answer(asked);
     Part { number, expected, received, start, length }
 }
 

@@ -1,10 +1,14 @@
--- `convert16::convert_row` meets its contract: the parts lent are those of `Parts`, and the row made of them is the definition's.
+-- `convert16::convert_row` meets its contract: the parts lent are those of `Parts`, and the row made of them, with its counts, is the
+-- definition's.
 -- Assumes nothing.
 use borrow.Author.Needs.{needs}
 use mathlib.Core.Path.{_∙_}
+use Prim.Native.Nat.{ℕ, _≤_}
 use native.Mathlib.Omega.{arith}
+use lib.ListN.{getD}
 use Rattle.yuv_support.specs.Blend.{frameOf}
-use Rattle.kernel.proofs.Frames.{Parts, parts-in, low-parts, parts-fit, row-of-parts, words-most}
+use Rattle.kernel.specs.Kernels.{mostOf}
+use Rattle.kernel.proofs.Frames.{Parts, parts-in, low-parts, parts-fit, row-of-parts, clipped-of-parts, words-most}
 use Rattle.convert16.proofs.convert_row.Statement.{statement}
 use Rattle.convert16.proofs.convert_row.Tie as tie
 
@@ -54,11 +58,15 @@ same-length c = search needs
 returns : tie.Need-returns
 returns c =
     let start = c .before .before .before .before .before .before .before .before .before .before .before .before .before .before .before in
-    let most = words-most (start .pre .0 .1) (start .pre .0 .0) in
-    let row = row-of-parts (start .pre .0 .1) (start .args .r) (start .pre .1 .0) (c .before .before .before .before .before .before .before .before .before .before .chroma-rows .ensures) in
-    c .before .before .interpolate-row .ensures
-    ∙ row (lent (c .before .before .before .before .before)) (start .args .row .now) (start .pre .1 .1)
-    (λ i. rw most (omega (arith, c .before .before .before .before .before .before .before .before .before .before .before .before .shared-slice-known2 .given i))) (λ i. rw most (omega (arith, c .before .before .before .before .before .before .before .before .before .before .before .shared-slice-known3 .given i)))
+    let ready = start .pre .0 .1 in
+    let most = words-most ready (start .pre .0 .0) in
+    let inside = start .pre .1 .0 in
+    let rows = c .before .before .before .before .before .before .before .before .before .before .chroma-rows .ensures in
+    let parts = lent (c .before .before .before .before .before) in
+    let u : (i : ℕ) → getD (start .args .u .now) i 0 ≤ mostOf (start .args .s .depth) = λ i. rw most (omega (arith, c .before .before .before .before .before .before .before .before .before .before .before .before .shared-slice-known2 .given i)) in
+    let v : (i : ℕ) → getD (start .args .v .now) i 0 ≤ mostOf (start .args .s .depth) = λ i. rw most (omega (arith, c .before .before .before .before .before .before .before .before .before .before .before .shared-slice-known3 .given i)) in
+    let told = c .before .before .interpolate-row .ensures in
+    (told .0 ∙ row-of-parts ready (start .args .r) inside rows parts u v (start .args .row .now) (start .pre .1 .1), told .1 ∙ clipped-of-parts ready (start .args .r) inside rows parts u v)
 
 pub convert-row-spec : {M : Type 1} → statement M
 convert-row-spec =

@@ -1,15 +1,17 @@
--- `convert_high16::convert_row` meets its contract: the buffers hold the unpacked parts of `Parts`, and the row made of them is the definition's.
+-- `convert_high16::convert_row` meets its contract: the buffers hold the unpacked parts of `Parts`, and the row made of them,
+-- with its counts, is the definition's.
 -- Assumes nothing.
 use borrow.Author.Needs.{needs}
 use mathlib.Core.Path.{_≡_, ap, _∙_}
 use mathlib.Core.List.{List}
 use Prim.Native.Nat.{ℕ, _-_, _≤_}
 use native.Mathlib.Omega.{arith}
-use lib.ListN.{length, take}
+use lib.ListN.{length, take, getD}
 use Rattle.yuv_support.specs.Blend.{frameOf, chromaHeight}
 use Rattle.yuv_support.proofs.Packing.{depth-room}
 use Rattle.yuv_support.proofs.Rows.{part-length}
-use Rattle.kernel.proofs.Frames.{Parts, parts-in, row-of-parts, words-most, words-depth}
+use Rattle.kernel.specs.Kernels.{mostOf}
+use Rattle.kernel.proofs.Frames.{Parts, parts-in, row-of-parts, clipped-of-parts, words-most, words-depth}
 use Rattle.convert_high16.specs.Held.{dividedBy, halfOf, Buffers}
 use Rattle.convert_high16.proofs.Parts.{BothHeld, columns-are, narrow, neighbours, by-columns, by-width, held-parts}
 use Rattle.convert_high16.proofs.convert_row.Statement.{statement}
@@ -173,9 +175,14 @@ returns : tie.Need-returns
 returns c =
     let d = c .before .before .before .before .before .before .before .before .before .before in
     let start = start-of d in
-    let most = words-most (start .pre .0 .1) (start .pre .0 .0) in
-    let row = row-of-parts (start .pre .0 .1) (start .args .r) (start .pre .1 .0 .0) (rows-of d .chroma-rows .ensures) (filled d) (start .args .row .now) (start .pre .1 .0 .1) (λ i. rw most (omega (arith, c .before .before .before .before .before .before .before .before .before .before .before .before .before .before .before .before .before .before .before .before .before .before .before .before .before .before .before .before .before .before .before .before .before .before .before .shared-slice-known2 .given i))) (λ i. rw most (omega (arith, c .before .before .before .before .before .before .before .before .before .before .before .before .before .before .before .before .before .before .before .before .before .before .before .before .before .before .before .before .before .before .before .before .before .before .shared-slice-known3 .given i))) in
-    (c .before .before .interpolate-held .ensures ∙ row, left d)
+    let ready = start .pre .0 .1 in
+    let most = words-most ready (start .pre .0 .0) in
+    let inside = start .pre .1 .0 .0 in
+    let rows = rows-of d .chroma-rows .ensures in
+    let u : (i : ℕ) → getD (start .args .u .now) i 0 ≤ mostOf (start .args .s .depth) = λ i. rw most (omega (arith, c .before .before .before .before .before .before .before .before .before .before .before .before .before .before .before .before .before .before .before .before .before .before .before .before .before .before .before .before .before .before .before .before .before .before .before .shared-slice-known2 .given i)) in
+    let v : (i : ℕ) → getD (start .args .v .now) i 0 ≤ mostOf (start .args .s .depth) = λ i. rw most (omega (arith, c .before .before .before .before .before .before .before .before .before .before .before .before .before .before .before .before .before .before .before .before .before .before .before .before .before .before .before .before .before .before .before .before .before .before .shared-slice-known3 .given i)) in
+    let told = c .before .before .interpolate-held .ensures in
+    (told .0 ∙ row-of-parts ready (start .args .r) inside rows (filled d) u v (start .args .row .now) (start .pre .1 .0 .1), (told .1 ∙ clipped-of-parts ready (start .args .r) inside rows (filled d) u v, left d))
 
 pub convert-row-spec : {M : Type 1} → statement M
 convert-row-spec =

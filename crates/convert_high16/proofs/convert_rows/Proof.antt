@@ -1,23 +1,25 @@
--- `convert_high16::convert_rows` meets its contract. The loop is that of `RowsDone`, and the buffers hold what `Buffers` says.
+-- `convert_high16::convert_rows` meets its contract. The loop is that of `RowsDone` and `RowsCounted`, and the buffers hold what `Buffers` says.
 -- Assumes nothing.
 use borrow.Author.Needs.{needs}
 use mathlib.Core.Path.{refl, sym, _∙_}
-use Prim.Native.Nat.{_-_}
+use mir.Syntax.{w32}
+use mir.Val.{Fits}
+use Prim.Native.Nat.{ℕ, _+_, _-_, _≤_, _<_}
 use native.Mathlib.Omega.{arith}
 use Rattle.yuv_support.specs.Blend.{frameOf}
 use Rattle.yuv_support.specs.Picture.{elementOf, band}
-use Rattle.kernel.proofs.Loops.{RowsDone, rows-begin, next-length, rows-next, rows-end}
+use Rattle.kernel.proofs.Loops.{RowsDone, rows-begin, next-length, rows-next, rows-end, RowsCounted, counted-begin, counted-room, counted-next, counted-end}
 use Rattle.convert_high16.specs.Held.{Buffers}
 use Rattle.convert_high16.proofs.Held.{none-named}
 use Rattle.convert_high16.proofs.convert_rows.Statement.{statement}
 use Rattle.convert_high16.proofs.convert_rows.Tie as tie
 
 abbrev Inv-loop : tie.InvT-loop
-Inv-loop rgb₀ y u v s image rgb-stride k first count n stride end luma₀ us₀ vs₀ u-held₀ v-held₀ r₀ rgb luma us vs u-held v-held r =
-    RowsDone (elementOf s (frameOf image y u v)) stride n first end rgb₀ rgb r × Buffers s (frameOf image y u v) luma us vs u-held v-held
+Inv-loop rgb₀ y u v s image rgb-stride k first count n stride end luma₀ us₀ vs₀ u-held₀ v-held₀ clipped₀ r₀ rgb luma us vs u-held v-held clipped r =
+    RowsDone (elementOf s (frameOf image y u v)) stride n first end rgb₀ rgb r × Buffers s (frameOf image y u v) luma us vs u-held v-held × RowsCounted s (frameOf image y u v) first clipped r
 
 abbrev μ-loop : tie.MeasureT-loop
-μ-loop rgb₀ y u v s image rgb-stride k first count n stride end luma₀ us₀ vs₀ u-held₀ v-held₀ r₀ rgb luma us vs u-held v-held r = end - r
+μ-loop rgb₀ y u v s image rgb-stride k first count n stride end luma₀ us₀ vs₀ u-held₀ v-held₀ clipped₀ r₀ rgb luma us vs u-held v-held clipped r = end - r
 
 row-length-requires : tie.Need-row-length-requires Inv-loop μ-loop
 row-length-requires c κs = c .before .before .before .before .pre .0 .1 .width-most
@@ -41,6 +43,7 @@ loop-holds c =
         u = λ row below e. absurd (none-named (start .args .s .sampling) (start .args .image .height) (start .pre .0 .1 .height-most) row below e);
         v = λ row below e. absurd (none-named (start .args .s .sampling) (start .args .image .height) (start .pre .0 .1 .height-most) row below e);
       },
+      counted-begin,
     )
 
 cast-at : tie.Need-cast-at Inv-loop μ-loop
@@ -85,23 +88,40 @@ convert-row-requires c κs =
     let inv = c .before .before .before .before .before .before .before .loop .inv in
     (start .pre .0, ((omega (arith, start .pre .1 .0, c .before .before .before .before .before .before .loop-test .taken), next-length (inv .0) (c .before .before .before .before .before .before .loop-test .taken) ∙ c .before .before .before .before .before .before .before .before .row-length .ensures), inv .1))
 
+both-requires : tie.Need-both-requires Inv-loop μ-loop
+both-requires c κs =
+    let start = c .before .before .before .before .before .before .before .before .before .before .before .before .before .before .before .before .before .before .before .before .before in
+    let ready = start .pre .0 .1 in
+    let inv = c .before .before .before .before .before .before .before .before .before .before .before .before .before .before .before .loop .inv in
+    counted-room (inv .2) (inv .0 .started) (c .before .before .before .before .before .before .before .convert-row .ensures .1 .0) (ready .width-most) (omega (arith, start .pre .1 .0, ready .height-most, c .before .before .before .before .before .before .before .before .before .before .before .before .before .before .loop-test .taken))
+
+-- the number of the next row
+next-fits : (r end height : ℕ) → r < end → end ≤ height → height ≤ 16384 → Fits w32 (r + 1)
+next-fits r end height below inside most = omega arith
+
 add-r : tie.Need-add-r Inv-loop μ-loop
-add-r c = omega arith
+add-r c =
+    let start = c .before .before .before .before .before .before .before .before .before .before .before .before .before .before .before .before .before .before .before .before .before .before in
+    next-fits (c .before .before .before .before .before .before .before .before .before .before .before .before .before .before .before .before .loop .r) (start .args .first + start .args .count) (start .args .image .height) (c .before .before .before .before .before .before .before .before .before .before .before .before .before .before .before .loop-test .taken) (start .pre .1 .0) (start .pre .0 .1 .height-most)
 
 loop-less : tie.Need-loop-less Inv-loop μ-loop
 loop-less c = omega arith
 
 loop-again : tie.Need-loop-again Inv-loop μ-loop
 loop-again c =
-    let row = c .before .before .before .before .before .before .before .convert-row .ensures in
-    (rows-next (c .before .before .before .before .before .before .before .before .before .before .before .before .before .before .before .loop .inv .0) (c .before .before .before .before .before .before .before .before .before .before .before .before .before .before .loop-test .taken) (row .0), row .1)
+    let inv = c .before .before .before .before .before .before .before .before .before .before .before .before .before .before .before .before .loop .inv in
+    let row = c .before .before .before .before .before .before .before .before .convert-row .ensures in
+    (rows-next (inv .0) (c .before .before .before .before .before .before .before .before .before .before .before .before .before .before .before .loop-test .taken) (row .0), row .1 .1, counted-next (inv .2) (inv .0 .started) (row .1 .0) (c .both .ensures))
 
 same-length : tie.Need-same-length Inv-loop μ-loop
 same-length c = c .before .loop .inv .0 .same
 
 returns : tie.Need-returns Inv-loop μ-loop
 unfolding band
-returns c = rows-end (c .before .before .before .before .before .before .before .args .count) (c .before .before .row-length .ensures) refl (c .before .loop .inv .0) (c .loop-test .left)
+returns c =
+    let start = c .before .before .before .before .before .before .before in
+    let inv = c .before .loop .inv in
+    (rows-end (start .args .count) (c .before .before .row-length .ensures) refl (inv .0) (c .loop-test .left), counted-end (start .args .count) refl (inv .0 .below) (inv .2) (c .loop-test .left))
 
 pub convert-rows-spec : {M : Type 1} → statement M
 convert-rows-spec =
@@ -126,6 +146,7 @@ convert-rows-spec =
     slice-aggregate-convert-row-4
     slice-aggregate-convert-row-5
     convert-row-requires
+    both-requires
     add-r
     loop-less
     loop-again

@@ -60,7 +60,9 @@ same-length : tie.Need-same-length
 same-length c = search needs
 
 returns : tie.Need-returns
-returns c = c .before .before .interpolate-row .ensures ∙ rw (c .before .before .before .before .before .before .before .before .before .before .before .row16 .ensures, c .before .before .before .before .before .before .before .before .before .row162 .ensures, c .before .before .before .before .before .before .before .row163 .ensures, c .before .before .before .before .before .row164 .ensures)
+returns c =
+    let told = c .before .before .interpolate-row .ensures in
+    (told .0 ∙ rw (c .before .before .before .before .before .before .before .before .before .before .before .row16 .ensures, c .before .before .before .before .before .before .before .before .before .row162 .ensures, c .before .before .before .before .before .before .before .row163 .ensures, c .before .before .before .before .before .row164 .ensures), told .1 ∙ rw (c .before .before .before .before .before .before .before .before .before .before .before .row16 .ensures, c .before .before .before .before .before .before .before .before .before .row162 .ensures, c .before .before .before .before .before .before .before .row163 .ensures, c .before .before .before .before .before .row164 .ensures))
 
 pub interpolate-held-spec : {M : Type 1} → statement M
 interpolate-held-spec =

@@ -8,8 +8,8 @@ use Rattle.dethrowg.proofs.dethrowg_yuv8_to_rgb.Tie as tie
 yuv-to-rgbx-bilinear-requires : tie.Need-yuv-to-rgbx-bilinear-requires
 yuv-to-rgbx-bilinear-requires c κs = search needs
 
-told-of-requires : tie.Need-told-of-requires
-told-of-requires c κs = search needs
+report-of-requires : tie.Need-report-of-requires
+report-of-requires c κs = search needs
 
 same-length : tie.Need-same-length
 same-length c = search needs
@@ -17,8 +17,8 @@ same-length c = search needs
 returns : tie.Need-returns
 returns c =
     let e = c .before .before .before .yuv-to-rgbx-bilinear .ensures in
-    (c .told-of .ensures ∙ rw (e .0), (e .1 .0, e .1 .1))
+    (c .report-of .ensures ∙ rw (e .0), (e .1 .0, e .1 .1))
 
 pub dethrowg-yuv8-to-rgb-spec : {M : Type 1} → statement M
 dethrowg-yuv8-to-rgb-spec =
-    tie.close (tie.spec yuv-to-rgbx-bilinear-requires told-of-requires same-length returns)
+    tie.close (tie.spec yuv-to-rgbx-bilinear-requires report-of-requires same-length returns)

@@ -9,7 +9,7 @@ abbrev Inv-loop : tie.InvT-loop
 Inv-loop list from row₀ at₀ column₀ row at column = Unit
 
 abbrev μ-loop : tie.MeasureT-loop
-μ-loop list from row₀ at₀ column₀ row at column = 34 - column
+μ-loop list from row₀ at₀ column₀ row at column = 36 - column
 
 loop-holds : tie.Need-loop-holds Inv-loop μ-loop
 loop-holds c = search needs

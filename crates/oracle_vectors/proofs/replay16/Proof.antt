@@ -52,8 +52,8 @@ narrow-requires c κs = search needs
 yuv16-to-rgbx-bilinear-requires : tie.Need-yuv16-to-rgbx-bilinear-requires
 yuv16-to-rgbx-bilinear-requires c κs = search needs
 
-told-of-requires : tie.Need-told-of-requires
-told-of-requires c κs = search needs
+report-of-requires : tie.Need-report-of-requires
+report-of-requires c κs = search needs
 
 sum16-requires : tie.Need-sum16-requires
 sum16-requires c κs = search needs
@@ -96,7 +96,7 @@ replay16-spec =
     element-copy-out-narrow
     narrow-requires
     yuv16-to-rgbx-bilinear-requires
-    told-of-requires
+    report-of-requires
     sum16-requires
     is-answer-requires
     same-length

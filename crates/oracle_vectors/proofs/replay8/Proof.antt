@@ -52,8 +52,8 @@ narrow-requires c κs = search needs
 yuv-to-rgbx-bilinear-requires : tie.Need-yuv-to-rgbx-bilinear-requires
 yuv-to-rgbx-bilinear-requires c κs = search needs
 
-told-of-requires : tie.Need-told-of-requires
-told-of-requires c κs = search needs
+report-of-requires : tie.Need-report-of-requires
+report-of-requires c κs = search needs
 
 sum8-requires : tie.Need-sum8-requires
 sum8-requires c κs = search needs
@@ -96,7 +96,7 @@ replay8-spec =
     element-copy-out-narrow
     narrow-requires
     yuv-to-rgbx-bilinear-requires
-    told-of-requires
+    report-of-requires
     sum8-requires
     is-answer-requires
     same-length

@@ -1,6 +1,7 @@
--- `sheet_picture::picture16` meets its contract: the samples are copied, the conversion of a small picture is accepted, and it writes each component.
+-- `sheet_picture::picture16` meets its contract: the samples are copied, the conversion of a small picture is accepted, it writes each component,
+-- and what was clipped is handed on.
 -- Assumes nothing.
-use Rattle.sheet_picture.proofs.Converted.{Narrowed, luma-asks, cb-asks, cr-asks, luma-part, cb-part, cr-part, planes-shown}
+use Rattle.sheet_picture.proofs.Converted.{Narrowed, luma-asks, cb-asks, cr-asks, luma-part, cb-part, cr-part, planes-shown, planes-clipped}
 use Rattle.yuv_support.specs.Settings.{depths16}
 use borrow.Author.Needs.{needs}
 use Rattle.sheet_picture.proofs.picture16.Statement.{statement}
@@ -83,9 +84,17 @@ same-length c = search needs
 
 returns : tie.Need-returns
 returns c =
-    let image = c .before .before .before .before .before .before .before in
-    planes-shown (narrowed (image .before .before .before .before .before)) _ (image .before .codes-of .ensures) (image .image-of .ensures) (image .before .before .before .order-of .ensures) (image .before .before .row-length .ensures)
-    (c .before .before .before .before .before .before .before .before .before .before .before .before .before .before .before .before .before .before .before .before .before .before .before .before .before .before .pre .2) (c .before .before .yuv16-to-rgbx-bilinear .ensures .1 .0)
+    let image = c .before .before .before .before .before .before .before .before in
+    let made = c .before .before .before .yuv16-to-rgbx-bilinear in
+    let planes = narrowed (image .before .before .before .before .before) in
+    let codes-are = image .before .codes-of .ensures in
+    let image-is = image .image-of .ensures in
+    let order-is = image .before .before .before .order-of .ensures in
+    let stride-is = image .before .before .row-length .ensures in
+    let long = c .before .before .before .before .before .before .before .before .before .before .before .before .before .before .before .before .before .before .before .before .before .before .before .before .before .before .before .pre .2 in (
+      planes-shown planes _ codes-are image-is order-is stride-is long (made .ensures .1 .0),
+      planes-clipped planes _ codes-are image-is order-is stride-is long (made .result) (made .ensures .0),
+    )
 
 pub picture16-spec : {M : Type 1} → statement M
 picture16-spec =

@@ -1,6 +1,7 @@
--- `sheet_picture::picture8` meets its contract: the samples are copied, the conversion of a small picture is accepted, and its bytes are widened.
+-- `sheet_picture::picture8` meets its contract: the samples are copied, the conversion of a small picture is accepted, its bytes are widened,
+-- and what was clipped is handed on.
 -- Assumes nothing.
-use Rattle.sheet_picture.proofs.Converted.{Narrowed, luma-asks, cb-asks, cr-asks, luma-part, cb-part, cr-part, planes-shown}
+use Rattle.sheet_picture.proofs.Converted.{Narrowed, luma-asks, cb-asks, cr-asks, luma-part, cb-part, cr-part, planes-shown, planes-clipped}
 use Rattle.yuv_support.proofs.Copy.{whole-same}
 use Rattle.yuv_support.specs.Settings.{depths8}
 use lib.ListN.{length-replicate}
@@ -97,12 +98,19 @@ same-length c = search needs
 
 returns : tie.Need-returns
 returns c =
-    let image = c .before .before .before .before .before .before .before .before .before .before .before in
-    let wide = c .before .before .widen8 in
-    let made = c .before .before .before .before .before .before .yuv-to-rgbx-bilinear in
-    rw (whole-same 16384 (wide .last .1 .1 .0) (made .last .1 .1 .1 .1 .1 .0) (wide .kept .1 .1 .0 ∙ c .before .before .before .before .before .before .before .before .before .before .before .before .before .before .before .before .before .before .before .before .before .before .before .before .before .before .before .before .before .before .pre .2) (made .kept .1 .1 .1 .1 .1 .0) (wide .ensures))
-    (planes-shown (narrowed (image .before .before .before .before .before)) _ (image .before .codes-of .ensures) (image .image-of .ensures) (image .before .before .before .order-of .ensures) (image .before .before .row-length .ensures)
-    (length-replicate {A = ℕ} 16384 0) (made .ensures .1 .0))
+    let image = c .before .before .before .before .before .before .before .before .before .before .before .before in
+    let wide = c .before .before .before .widen8 in
+    let made = c .before .before .before .before .before .before .before .yuv-to-rgbx-bilinear in
+    let planes = narrowed (image .before .before .before .before .before) in
+    let codes-are = image .before .codes-of .ensures in
+    let image-is = image .image-of .ensures in
+    let order-is = image .before .before .before .order-of .ensures in
+    let stride-is = image .before .before .row-length .ensures in
+    let zeros = length-replicate {A = ℕ} 16384 0 in (
+      rw (whole-same 16384 (wide .last .1 .1 .0) (made .last .1 .1 .1 .1 .1 .0) (wide .kept .1 .1 .0 ∙ c .before .before .before .before .before .before .before .before .before .before .before .before .before .before .before .before .before .before .before .before .before .before .before .before .before .before .before .before .before .before .before .pre .2) (made .kept .1 .1 .1 .1 .1 .0) (wide .ensures))
+          (planes-shown planes _ codes-are image-is order-is stride-is zeros (made .ensures .1 .0)),
+      planes-clipped planes _ codes-are image-is order-is stride-is zeros (made .result) (made .ensures .0),
+    )
 
 pub picture8-spec : {M : Type 1} → statement M
 picture8-spec =

@@ -59,14 +59,20 @@ same-length c = search needs
 
 returns : tie.Need-returns
 unfolding picture
-returns c = c .before .before .convert-rows .ensures ∙ rw (c .before .before .before .before .before .before .before .decode .ensures)
+returns c =
+    let rows = c .before .before .convert-rows .ensures in
+    let settings = c .before .before .before .before .before .before .before .decode .ensures in
+    (rows .0 ∙ rw settings, rows .1 ∙ rw settings)
 
 same-length-2 : tie.Need-same-length-2
 same-length-2 c = search needs
 
 returns-2 : tie.Need-returns-2
 unfolding picture
-returns-2 c = c .before .before .convert-rows2 .ensures ∙ rw (c .before .before .before .before .before .before .before .decode .ensures)
+returns-2 c =
+    let rows = c .before .before .convert-rows2 .ensures in
+    let settings = c .before .before .before .before .before .before .before .decode .ensures in
+    (rows .0 ∙ rw settings, rows .1 ∙ rw settings)
 
 pub convert-spec : {M : Type 1} → statement M
 convert-spec =

@@ -35,7 +35,10 @@ same-length c = search needs
 
 returns : tie.Need-returns
 unfolding picture
-returns c = c .before .before .convert-rows .ensures ∙ rw (c .before .before .before .before .before .decode .ensures)
+returns c =
+    let rows = c .before .before .convert-rows .ensures in
+    let settings = c .before .before .before .before .before .decode .ensures in
+    (rows .0 ∙ rw settings, rows .1 ∙ rw settings)
 
 pub convert-spec : {M : Type 1} → statement M
 convert-spec =

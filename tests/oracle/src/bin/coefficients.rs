@@ -1,7 +1,7 @@
 //! Compares the settings used, named and Custom, with those of the Rust, in matched mode with
-//! `src/matched.rs`, and with questions 1, 2 and 13.
+//! `src/reading.rs`, and with questions 1, 2 and 13.
 use oracle::cases::{every_code, limit, packings, EDGES, MODES};
-use oracle::{library, matched, model, random::Random, reference, tally::Tally, Codes};
+use oracle::{library, model, random::Random, reading, tally::Tally, Codes};
 use std::process::ExitCode;
 
 const DEPTHS: [u32; 3] = [8, 10, 12];
@@ -33,7 +33,7 @@ fn compare(tally: &mut Tally, codes: Codes) {
     let ours = library::settings(&codes);
     let mut wanted = model::settings(&codes);
     if wanted.number == 0 {
-        wanted = [reference::settings, matched::settings][codes.mode as usize](&codes);
+        wanted = reading::settings(&codes);
     }
     tally.count(ours.number);
     if ours.number == 2 {

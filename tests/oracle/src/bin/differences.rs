@@ -3,7 +3,7 @@
 use oracle::cases::{request, TIGHT};
 use oracle::library::{self, Convert};
 use oracle::reference::{self, Reference};
-use oracle::{matched, Codes, Extent, Planes, Request};
+use oracle::{reading, Codes, Extent, Planes, Request};
 use source::yuv_p16_to_rgba16_bilinear::{i014_to_rgb14_bilinear, i016_to_rgb16_bilinear};
 use source::YuvRange;
 use std::panic::{catch_unwind, set_hook, take_hook, AssertUnwindSafe};
@@ -70,7 +70,7 @@ fn both(q: &Request, planes: &Planes<u8>) -> Vec<u8> {
         assert_eq!(rust(q, planes), Ok(picture.clone()));
     } else {
         let mut second = vec![0; q.rgb.len];
-        matched::convert(q, planes, &mut second);
+        reading::convert(q, planes, &mut second);
         assert_eq!(second, picture);
     }
     picture

@@ -1,14 +1,12 @@
-//! Times frames of 1920 by 1080 against the scalar Rust: one thread, in turns, pixels compared.
+//! Times frames against the scalar Rust: one thread, in turns, pixels and counts compared.
 use oracle::cases::{planes, request, Samples, TIGHT};
 use oracle::library::Convert;
-use oracle::{random::Random, reference, tally::status, Codes, Planes, Request};
+use oracle::{random::Random, reading, reference, tally::status, Answer, Codes, Planes, Request};
 use std::hint::black_box;
 use std::process::ExitCode;
 use std::time::Instant;
 
 const ROUNDS: usize = 51;
-const WIDTH: u32 = 1920;
-const HEIGHT: u32 = 1080;
 
 /// 8 bits, 4:2:0 to RGBA, limited BT.709.
 const FRAME: Codes = Codes {
@@ -23,46 +21,67 @@ const FRAME: Codes = Codes {
     kb: 0.0,
 };
 
+/// What is measured of each size: the name, the settings.
+type Kind = (&'static str, Codes);
+
+const RGBA: Kind = ("8 bits, 4:2:0 to RGBA", FRAME);
+const RGB: Kind = ("8 bits, 4:2:0 to RGB", Codes { order: 0, ..FRAME });
+const RGBA_422: Kind = ("8 bits, 4:2:2 to RGBA", Codes { sampling: 1, ..FRAME });
+const RGB_422: Kind = ("8 bits, 4:2:2 to RGB", Codes { sampling: 1, order: 0, ..FRAME });
+const RGBA_10: Kind = ("10 bits, 4:2:0 to RGBA", Codes { depth: 10, ..FRAME });
+const RGB_10: Kind = ("10 bits, 4:2:0 to RGB", Codes { depth: 10, order: 0, ..FRAME });
+const RGBA_HIGH: Kind = ("10 bits high, 4:2:0 to RGBA", Codes { depth: 10, packing: 1, ..FRAME });
+
+/// The last size has a width that is no multiple of 64.
+const SIZES: [(u32, u32, &[Kind]); 3] = [
+    (1920, 1080, &[RGBA, RGB, RGBA_422, RGB_422, RGBA_10, RGB_10, RGBA_HIGH]),
+    (3840, 2160, &[RGBA, RGBA_10]),
+    (1000, 2000, &[RGBA, RGB]),
+];
+
 fn main() -> ExitCode {
-    println!("{WIDTH} by {HEIGHT}, limited BT.709, medians of {ROUNDS} rounds, in ms");
-    println!("{:36} {:>8} {:>8} {:>8}", "", "ours", "Rust", "ratio");
+    println!("limited BT.709, medians of {ROUNDS} rounds, in ms");
     let mut same = true;
-    for smooth in [false, true] {
-        same &= measure::<u8>("8 bits, 4:2:0 to RGBA", FRAME, smooth);
-        same &= measure::<u8>("8 bits, 4:2:0 to RGB", Codes { order: 0, ..FRAME }, smooth);
-        same &= measure::<u8>("8 bits, 4:2:2 to RGBA", Codes { sampling: 1, ..FRAME }, smooth);
-        #[cfg(feature = "level_b")]
-        {
-            let (low, high) =
-                (Codes { depth: 10, ..FRAME }, Codes { depth: 10, packing: 1, ..FRAME });
-            same &= measure::<u16>("10 bits, 4:2:0 to RGBA", low, smooth);
-            same &= measure::<u16>("10 bits high, 4:2:0 to RGBA", high, smooth);
+    for (width, height, kinds) in SIZES {
+        let sides = format!("{width} by {height}");
+        println!("{sides:36} {:>8} {:>8} {:>8}", "ours", "Rust", "ratio");
+        for smooth in [false, true] {
+            for kind in kinds {
+                same &= match kind.1.depth {
+                    8 => measure::<u8>(*kind, width, height, smooth),
+                    #[cfg(feature = "level_b")]
+                    _ => measure::<u16>(*kind, width, height, smooth),
+                    #[cfg(not(feature = "level_b"))]
+                    _ => true,
+                };
+            }
         }
     }
-    println!("{}", if same { "all pixels equal" } else { "PIXELS DIFFER" });
+    println!("{}", if same { "all pixels and counts equal" } else { "PIXELS OR COUNTS DIFFER" });
     status(same)
 }
 
-/// Prints a line of the table; whether the pixels are equal before and after the measurement.
-/// Samples in the high bits are divided for the Rust beforehand, so that dividing is not counted for
-/// it; for the library it is.
-fn measure<T: Convert>(name: &str, codes: Codes, smooth: bool) -> bool {
-    let q = request(codes, WIDTH, HEIGHT, TIGHT);
+/// Prints a line of the table; whether the pixels and the counts are equal before and after the
+/// measurement. Samples in the high bits are divided for the Rust beforehand, so that dividing is not
+/// counted for it; for the library it is.
+fn measure<T: Convert>((name, codes): Kind, width: u32, height: u32, smooth: bool) -> bool {
+    let q = request(codes, width, height, TIGHT);
     let mut planes =
         if smooth { gradient::<T>(&q) } else { planes(&mut Random(7), Samples::Within, &q) };
     let divided = reference::divided(&codes, &planes);
     let low = Request { codes: Codes { packing: 0, ..codes }, ..q };
     let (mut ours, mut rust) = (vec![T::low(0); q.rgb.len], vec![T::low(1); q.rgb.len]);
-    let accepted = T::convert(&q, &mut planes, &mut ours).number == 0;
+    let wanted = Answer::default().with(reading::convert(&q, &planes, &mut rust));
+    let mut answer = T::convert(&q, &mut planes, &mut ours);
     T::reference(&low, divided.as_ref().unwrap_or(&planes), &mut rust).expect("accepted");
-    let first = accepted && ours == rust;
+    let first = answer == wanted && ours == rust;
     let mut times = [Vec::new(), Vec::new()];
     for round in 0..2 * ROUNDS {
         // ours, Rust, Rust, ours: neither always runs after the other
         let which = (round + round / 2) % 2;
         let start = Instant::now();
         if which == 0 {
-            black_box(T::convert(black_box(&q), &mut planes, &mut ours));
+            answer = black_box(T::convert(black_box(&q), &mut planes, &mut ours));
         } else {
             let planes = divided.as_ref().unwrap_or(&planes);
             black_box(T::reference(black_box(&low), planes, &mut rust)).expect("accepted");
@@ -72,7 +91,7 @@ fn measure<T: Convert>(name: &str, codes: Codes, smooth: bool) -> bool {
     let [ours_ms, rust_ms] = times.map(median);
     let name = format!("{name}, {}", if smooth { "smooth" } else { "random" });
     println!("{name:36} {ours_ms:8.3} {rust_ms:8.3} {:8.3}", ours_ms / rust_ms);
-    first && ours == rust
+    first && answer == wanted && ours == rust
 }
 
 fn median(mut times: Vec<f64>) -> f64 {

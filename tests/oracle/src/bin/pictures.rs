@@ -1,13 +1,16 @@
-//! Compares whole conversions: every destination element, the kept ones too, number, expected and
-//! received. Mode 0 is compared with the Rust, matched mode with `src/matched.rs`, and with the Rust
-//! too where the two must agree. Arguments: how many random pictures for each element width and
-//! packing (in matched mode three fifths of it), and a seed.
+//! Compares whole conversions: every destination element, the kept ones too, number, expected,
+//! received, below and above. The pixels of mode 0 are compared with the Rust, those of matched mode
+//! with `src/reading.rs`, and with the Rust too where the two must agree. The counts of both modes are
+//! compared with `src/reading.rs`, whose own pixels of mode 0 must be the Rust's. Arguments: how many
+//! random pictures for each element width and packing (in matched mode three fifths of it), and a
+//! seed.
 use oracle::cases::{
     codes, elements, every_code, planes, request, Samples, Slack, MODES, SAMPLES, TIGHT,
 };
 use oracle::library::Convert;
 use oracle::tally::{status, Tally};
-use oracle::{matched, model, random::Random, reference, Codes, Extent, Planes, Request};
+use oracle::{model, random::Random, reading, reference};
+use oracle::{Answer, Codes, Extent, Planes, Request};
 use std::process::ExitCode;
 
 /// Elements before and after the destination, which a conversion is not given.
@@ -17,8 +20,8 @@ fn main() -> ExitCode {
     let mut arguments = std::env::args().skip(1).map(|text| text.parse().expect("a number"));
     let pictures = arguments.next().unwrap_or(500_000);
     let random = Random(arguments.next().unwrap_or(2024));
-    let (tally, beside) = (Tally::default(), Beside::default());
-    let mut run = Run { tally, beside, random, pictures, packing: 0, mode: 0 };
+    let (tally, counts, beside) = (Tally::default(), Counts::default(), Beside::default());
+    let mut run = Run { tally, counts, beside, random, pictures, packing: 0, mode: 0 };
 
     let triples: Part = ("every Y, Cb and Cr in 12 settings", every_triple);
     let mut same = run.group("8 bits", (0, 0), &[&known::<u8>()[..], &[triples]].concat());
@@ -36,11 +39,11 @@ fn main() -> ExitCode {
 
     run.pictures = run.pictures * 3 / 5;
     let triples: Part = ("every Y, Cb and Cr of Smpte240", every_triple);
-    let parts = [&known::<u8>()[..4], &[triples]].concat();
+    let parts = [&known::<u8>()[..5], &[triples]].concat();
     same &= run.group("matched, 8 bits", (0, 1), &parts);
     #[cfg(feature = "level_b")]
     {
-        let parts = &known::<u16>()[..4];
+        let parts = &known::<u16>()[..5];
         same &= run.group("matched, 10 and 12 bits in the low bits", (0, 1), parts);
         same &= run.group("matched, 10 and 12 bits in the high bits", (1, 1), parts);
     }
@@ -57,6 +60,7 @@ fn main() -> ExitCode {
 /// it draws.
 struct Run {
     tally: Tally,
+    counts: Counts,
     beside: Beside,
     random: Random,
     pictures: u64,
@@ -69,7 +73,8 @@ type Part = (&'static str, fn(&mut Run));
 impl Run {
     /// Compares the parts of a group and prints its counts; whether nothing differed.
     fn group(&mut self, name: &str, (packing, mode): (u32, u32), parts: &[Part]) -> bool {
-        (self.tally, self.beside) = (Tally::default(), Beside::default());
+        (self.tally, self.counts) = (Tally::default(), Counts::default());
+        self.beside = Beside::default();
         (self.packing, self.mode) = (packing, mode);
         for (part, compare) in parts {
             let before = self.tally.calls;
@@ -77,12 +82,56 @@ impl Run {
             println!("{name}, {part}: {} compared", self.tally.calls - before);
         }
         let same = self.tally.print(name);
+        self.counts.print();
         self.beside.print();
         same
     }
 
     fn codes<T: Convert>(&mut self) -> Codes {
         Codes { packing: self.packing, mode: self.mode, ..codes::<T>(&mut self.random) }
+    }
+}
+
+/// Counts of accepted pictures: what was clipped in them, and how those of mode 0 come out in the
+/// second reading.
+#[derive(Default)]
+struct Counts {
+    pictures: u64,
+    components: u64,
+    below: u64,
+    above: u64,
+    clipped: [u64; 4],
+    as_source: u64,
+    unlike: u64,
+}
+
+impl Counts {
+    /// Counts a picture by its answer.
+    fn count(&mut self, q: &Request, answer: Answer) {
+        self.pictures += 1;
+        self.components += 3 * u64::from(q.width) * u64::from(q.height);
+        self.below += answer.below;
+        self.above += answer.above;
+        self.clipped[usize::from(answer.below > 0) + 2 * usize::from(answer.above > 0)] += 1;
+    }
+
+    /// Counts a picture of mode 0 that the second reading and the Rust have made.
+    fn tie(&mut self, same: bool) {
+        self.as_source += 1;
+        self.unlike += u64::from(!same);
+    }
+
+    fn print(&self) {
+        let Counts { pictures, components, below, above, clipped, as_source, unlike } = self;
+        let [neither, below_alone, above_alone, both] = clipped;
+        println!("  clipped: {below} components below and {above} above, of {components}");
+        println!(
+            "    accepted pictures: {pictures}; with neither: {neither}, below alone: \
+             {below_alone}, above alone: {above_alone}, both: {both}"
+        );
+        if *as_source > 0 {
+            println!("  the second reading and the Rust: {as_source} pictures, {unlike} different");
+        }
     }
 }
 
@@ -102,12 +151,12 @@ impl Beside {
     fn count<T: Convert>(&mut self, q: &Request, ours: &[T], rust: &[T]) -> usize {
         self.pictures += 1;
         self.unlike += u64::from(ours != rust);
-        if matched::smpte240_at_8_bits(&q.codes) {
+        if reading::smpte240_at_8_bits(&q.codes) {
             return 0;
         }
         let channels = model::channels(q.codes.order) as usize;
         let (mut outside, mut inside) = (rust.to_vec(), 0);
-        for (row, column) in matched::two_row_tail(q) {
+        for (row, column) in reading::two_row_tail(q) {
             let start = q.rgb.stride as usize * row as usize + channels * column as usize;
             let pixel = start..start + channels;
             outside[pixel.clone()].copy_from_slice(&ours[pixel]);
@@ -132,12 +181,13 @@ impl Beside {
 }
 
 /// Pictures of known codes.
-fn known<T: Convert>() -> [Part; 5] {
+fn known<T: Convert>() -> [Part; 6] {
     [
         ("sides 1 to 9, every setting", small::<T>),
         ("strides and lengths around every limit", limits::<T>),
         ("sides around 0 and 16384", large::<T>),
         ("random pictures", various::<T>),
+        ("widths 1 to 1200", widths::<T>),
         ("large pictures", megapixels::<T>),
     ]
 }
@@ -150,25 +200,33 @@ fn compare<T: Convert>(run: &mut Run, kind: Samples, q: Request) {
 fn compare_planes<T: Convert>(run: &mut Run, q: Request, planes: &Planes<T>) {
     let before: Vec<T> = elements(&mut run.random, q.rgb.len + 2 * GUARD, |bits| bits);
     let part = GUARD..GUARD + q.rgb.len;
-    let (mut ours, mut wanted, mut lent) = (before.clone(), before.clone(), planes.clone());
+    let (mut ours, mut lent) = (before.clone(), planes.clone());
+    let (mut source, mut second) = (before.clone(), before.clone());
     let answer = T::convert(&q, &mut lent, &mut ours[part.clone()]);
-    let model = model::conversion(T::BITS, &q);
+    let mut model = model::conversion(T::BITS, &q);
     run.tally.count(answer.number);
     if answer.number == 2 {
         run.tally.count_alone(model::alone(T::DEPTHS, &q.codes));
     }
     let rust = match model.number {
         1 | 2 | 4 | 13 => None,
-        _ => Some(T::reference(&q, planes, &mut wanted[part.clone()])),
+        _ => Some(T::reference(&q, planes, &mut source[part.clone()])),
     };
     let rust_agrees = rust.iter().all(|outcome| reference::agrees(outcome, answer));
-    let mut outside = 0;
-    if q.codes.mode == 1 && model.number == 0 {
-        outside = run.beside.count(&q, &ours[part.clone()], &wanted[part.clone()]);
-        wanted.copy_from_slice(&before);
-        matched::convert(&q, planes, &mut wanted[part]);
+    let (mut outside, mut tied) = (0, true);
+    if model.number == 0 {
+        model = model.with(reading::convert(&q, planes, &mut second[part.clone()]));
+        run.counts.count(&q, model);
+        if q.codes.mode == 0 {
+            tied = second == source;
+            run.counts.tie(tied);
+        } else {
+            outside = run.beside.count(&q, &ours[part.clone()], &source[part]);
+        }
     }
-    if answer == model && rust_agrees && lent == *planes && ours == wanted && outside == 0 {
+    let wanted = if q.codes.mode == 0 { source } else { second };
+    let pixels = ours == wanted && outside == 0 && tied;
+    if answer == model && rust_agrees && lent == *planes && pixels {
         return;
     }
     run.tally.differ(q.y.len + q.u.len + q.v.len + q.rgb.len, || {
@@ -177,6 +235,7 @@ fn compare_planes<T: Convert>(run: &mut Run, q: Request, planes: &Planes<T>) {
             + &samples_of(planes, &lent)
             + &differing(&before, &ours, &wanted)
             + &format!("  not as the Rust's outside the two-row tails: {outside}\n")
+            + if tied { "" } else { "  the second reading is not as the Rust's\n" }
     });
 }
 
@@ -323,6 +382,26 @@ fn various<T: Convert>(run: &mut Run) {
         }
         let (kind, codes) = (random.pick(&SAMPLES), run.codes::<T>());
         compare::<T>(run, kind, request(codes, width, height, slack));
+    }
+}
+
+/// Every width from 1 to 1,200, up to four rows high, in every order and sampling with every kind of
+/// samples. The library converts the pairs of a row in groups of up to 256, of eights of pairs and with
+/// what is left over, rows of few pairs otherwise, and u16 groups of samples below 4,096 otherwise than
+/// others: all of these occur.
+fn widths<T: Convert>(run: &mut Run) {
+    let kinds = [&SAMPLES[..], &[Samples::Mixed]].concat();
+    for (width, n) in (1..=1200).flat_map(|width| (0..8).map(move |n| (width, n))) {
+        for kind in &kinds {
+            let drawn = run.codes::<T>();
+            let usable = model::usable(drawn.depth, drawn.range, drawn.kr, drawn.kb);
+            let matrix = if usable { drawn.matrix } else { drawn.matrix % 6 };
+            let codes = Codes { sampling: n % 2, order: n / 2, matrix, ..drawn };
+            let random = &mut run.random;
+            let slack = if random.below(2) == 0 { TIGHT } else { spare(random) };
+            let height = random.between(1, 4);
+            compare::<T>(run, *kind, request(codes, width, height, slack));
+        }
     }
 }
 

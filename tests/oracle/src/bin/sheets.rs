@@ -1,7 +1,8 @@
-//! Compares the program `sheet` with document 01's sheet, read here once more; the pixels are the
-//! Rust's. `sheets COUNT SEED` sets the random sheets; `sheets -` prints the answer to its input.
+//! Compares the program `sheet` with document 01's sheet and document 02's last line, read here once
+//! more; the pixels are the Rust's, the counts those of `src/reading.rs`. `sheets COUNT SEED` sets the
+//! random sheets; `sheets -` prints the answer to its input.
 use oracle::cases::Element;
-use oracle::{model, random::Random, tally::Tally, Codes, Extent, Request};
+use oracle::{model, random::Random, reading, tally::Tally, Clipped, Codes, Extent, Request};
 use std::io::{Read, Write};
 use std::process::{Command, ExitCode, Stdio};
 
@@ -47,7 +48,7 @@ fn program(input: &[u8]) -> Vec<u8> {
     child.wait_with_output().unwrap().stdout
 }
 
-/// Document 01's sheet.
+/// Document 01's sheet, with document 02's line of what was clipped.
 fn answer(input: &[u8]) -> String {
     let lines = input.strip_prefix(NAMES).and_then(|rest| line(rest, 7, 99_999));
     let Some((values, rest)) = lines else { return "refused 15\n".into() };
@@ -106,9 +107,12 @@ fn table<T: Element + Into<u32>>(c: Codes, width: u32, height: u32, rest: &[u8])
     let extent = |stride: u32, rows: u32| Extent { len: (stride * rows) as usize, stride };
     let (y, u) = (extent(width, height), extent(chroma.0, chroma.1));
     let rgb = extent(width * channels, height);
+    let q = Request { codes: c, width, height, y, u, v: u, rgb };
     let mut picture = vec![T::low(0); rgb.len];
-    T::reference(&Request { codes: c, width, height, y, u, v: u, rgb }, &planes, &mut picture)
-        .unwrap();
+    T::reference(&q, &planes, &mut picture).unwrap();
+    let mut second = vec![T::low(0); rgb.len];
+    let Clipped { below, above } = reading::convert(&q, &planes, &mut second);
+    assert_eq!(second, picture);
     let mut text = String::from("row column r g b\n");
     let red = if c.order < 2 { 0 } else { 2 };
     for (at, pixel) in picture.chunks(channels as usize).enumerate() {
@@ -116,6 +120,7 @@ fn table<T: Element + Into<u32>>(c: Codes, width: u32, height: u32, rest: &[u8])
         let [r, g, b]: [u32; 3] = [pixel[red].into(), pixel[1].into(), pixel[2 - red].into()];
         text += &format!("{row} {column} {r} {g} {b}\n");
     }
+    text += &format!("clipped {below} {above}\n");
     Some(text)
 }
 

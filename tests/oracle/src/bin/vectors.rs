@@ -1,40 +1,73 @@
 //! Writes the list that crates/oracle_vectors replays: calls on small buffers, and what the Rust
-//! answers to each. Every call is one that the Rust answers itself: known codes, weights that
-//! question 13 lets through, sides up to 12. In matched mode, which comes last, the picture and the
-//! settings used are those of `src/matched.rs`.
+//! answers to each. Every call is one that the Rust answers itself: known codes, and weights that
+//! question 13 lets through. The counts are those of `src/reading.rs`, and in matched mode the picture
+//! and the settings used too. Sides are up to 12, in the last calls the width up to 341.
 use oracle::cases::{codes, packings, request, Element, Slack, TIGHT};
 use oracle::random::Random;
-use oracle::{matched, model, reference, Answer, Codes, Extent, Planes, Request};
+use oracle::{model, reading, reference, Answer, Codes, Extent, Planes, Request};
 
 const COLUMNS: &str = "depth sampling order range matrix packing mode kr kb width height \
     y_stride u_stride v_stride rgb_stride y_len u_len v_len rgb_len seed top ends \
-    number expected received sum max bias_y bias_uv y cr cb g1 g2";
+    number expected received below above sum max bias_y bias_uv y cr cb g1 g2";
 
 /// The room that the replaying program has for each buffer.
 const ROOM: usize = 1024;
 
+/// The room that it has for the whole list.
+const BYTES: usize = 524_288;
+
+/// Of the calls of mode 0 on sides up to 12, every eleventh is left out, so that the list fits.
+const LEFT_OUT: u64 = 11;
+
 fn main() {
-    let mut list = List { random: Random(2024), lines: Vec::new(), by_number: [0; 13] };
+    let mut list = List::new();
     settings::<u8>(&mut list);
     settings::<u16>(&mut list);
     sides::<u8>(&mut list);
     sides::<u16>(&mut list);
     refusals::<u8>(&mut list);
     refusals::<u16>(&mut list);
-    let as_source = list.lines.len();
+    list.told("as in the source");
     matched_settings::<u8>(&mut list);
     matched_settings::<u16>(&mut list);
     matched_refusals::<u8>(&mut list);
     matched_refusals::<u16>(&mut list);
-    println!("{COLUMNS}\n{}", list.lines.join("\n"));
-    eprintln!("{} answers, by number: {:?}", list.lines.len(), list.by_number);
-    eprintln!("the last {} in matched mode", list.lines.len() - as_source);
+    list.told("then matched");
+    wide::<u8>(&mut list);
+    wide::<u16>(&mut list);
+    list.told("then of wide rows, in both modes");
+    let text = format!("{COLUMNS}\n{}\n", list.lines.join("\n"));
+    assert!(text.len() < BYTES);
+    print!("{text}");
+    eprintln!("{} answers in {} bytes", list.lines.len(), text.len());
+    eprintln!("by number: {:?}", list.by_number);
+    eprintln!("in the high bits: {}", list.high);
+    let [none, below, above, both] = list.clipped;
+    eprintln!("accepted with neither count: {none}, with below alone: {below},");
+    eprintln!("with above alone: {above}, with both: {both}");
 }
 
 struct List {
     random: Random,
     lines: Vec<String>,
+    drawn: u64,
+    told: usize,
     by_number: [u32; 13],
+    clipped: [u32; 4],
+    high: u32,
+}
+
+impl List {
+    fn new() -> List {
+        let (random, lines) = (Random(2024), Vec::new());
+        List { random, lines, drawn: 0, told: 0, by_number: [0; 13], clipped: [0; 4], high: 0 }
+    }
+
+    /// Tells how many answers were added since it last told.
+    fn told(&mut self, what: &str) {
+        eprintln!("{} answers {what}", self.lines.len() - self.told);
+        self.told = self.lines.len();
+    }
 }
 
 /// Elements whose sum is taken.
@@ -67,34 +100,50 @@ fn sum<T: Summed>(buffer: &[T]) -> u64 {
     numbers.fold(0, |sum, number| (sum * 2147483629 + number + 1) % 4294967291)
 }
 
-/// Adds a call with its answer.
-fn add<T: Summed>(list: &mut List, mut q: Request, top: u64, ends: bool) {
-    assert!([q.y, q.u, q.v, q.rgb].iter().all(|buffer| buffer.len <= ROOM));
+/// Adds a call with its answer, unless it is one to leave out.
+fn add<T: Summed>(list: &mut List, q: Request, top: u64, ends: bool) {
+    list.drawn += 1;
+    if q.codes.mode == 1 || q.width > 12 || list.drawn % LEFT_OUT > 0 {
+        keep::<T>(list, q, top, ends);
+    }
+}
+
+fn keep<T: Summed>(list: &mut List, mut q: Request, top: u64, ends: bool) {
+    assert!(fits(&q));
     if q.codes.matrix < 6 {
         (q.codes.kr, q.codes.kb) = (0.0, 0.0);
     }
-    let seed = list.lines.len() as u64 + 1;
+    let seed = list.drawn;
     let mut sequence = Sequence(seed);
     let planes: Planes<T> = [q.y, q.u, q.v].map(|plane| sequence.fill(plane.len, top, ends));
-    let before: Vec<T> = sequence.fill(q.rgb.len, most::<T>(), false);
-    let mut rgb = before.clone();
+    let mut rgb: Vec<T> = sequence.fill(q.rgb.len, most::<T>(), false);
+    let mut second = rgb.clone();
     let outcome = T::reference(&q, &planes, &mut rgb);
     // The Rust has one name for 9 to 12: which of them it is follows from their order.
-    let answer = model::conversion(T::BITS, &q);
+    let mut answer = model::conversion(T::BITS, &q);
     assert!(reference::agrees(&outcome, answer), "{q:?}: {outcome:?}, {answer:?}");
-    if q.codes.mode == 1 && answer.number == 0 {
-        rgb = before;
-        matched::convert(&q, &planes, &mut rgb);
-    }
     list.by_number[answer.number as usize] += 1;
-    let numbers = line(&q, [seed, top, ends.into()], answer, sum(&rgb));
+    list.high += q.codes.packing;
+    if answer.number == 0 {
+        answer = answer.with(reading::convert(&q, &planes, &mut second));
+        list.clipped[usize::from(answer.below > 0) + 2 * usize::from(answer.above > 0)] += 1;
+        if q.codes.mode == 0 {
+            assert_eq!(rgb, second, "{q:?}");
+        }
+    }
+    let numbers = line(&q, [seed, top, ends.into()], answer, sum(&second));
     list.lines.push(numbers.map(|number| number.to_string()).join(" "));
 }
 
+/// Whether the replaying program has room for the buffers.
+fn fits(q: &Request) -> bool {
+    [q.y, q.u, q.v, q.rgb].iter().all(|buffer| buffer.len <= ROOM)
+}
+
 #[rustfmt::skip]
-fn line(q: &Request, [seed, top, ends]: [u64; 3], answer: Answer, sum: u64) -> [u64; 34] {
+fn line(q: &Request, [seed, top, ends]: [u64; 3], answer: Answer, sum: u64) -> [u64; 36] {
     let c = &q.codes;
-    let s = if c.mode == 0 { reference::settings(c) } else { matched::settings(c) };
+    let s = reading::settings(c);
     let small = |number: u32| u64::from(number);
     [
         small(c.depth), small(c.sampling), small(c.order), small(c.range), small(c.matrix),
@@ -102,7 +151,7 @@ fn line(q: &Request, [seed, top, ends]: [u64; 3], answer: Answer, sum: u64) -> [
         small(q.width), small(q.height),
         small(q.y.stride), small(q.u.stride), small(q.v.stride), small(q.rgb.stride),
         q.y.len as u64, q.u.len as u64, q.v.len as u64, q.rgb.len as u64, seed, top, ends,
-        answer.number, answer.expected, answer.received, sum,
+        answer.number, answer.expected, answer.received, answer.below, answer.above, sum,
         small(s.max), small(s.bias_y), small(s.bias_uv),
         small(s.y), small(s.cr), small(s.cb), small(s.g1), small(s.g2),
     ]
@@ -237,5 +286,26 @@ fn matched_refusals<T: Summed>(list: &mut List) {
             fault => slack[fault / 2].1 = -1,
         }
         add::<T>(list, request(c, width, height, slack), most::<T>(), false);
+    }
+}
+
+/// Widths from 17 on, up to three rows high, in every depth, packing, order, sampling and mode. Of u16
+/// samples some are up to 4,100, so that few of a row are above 4,095.
+fn wide<T: Summed>(list: &mut List) {
+    for &depth in T::DEPTHS {
+        for (n, &packing) in (0..48).flat_map(|n| packings(depth).iter().map(move |p| (n, p))) {
+            let (sampling, order, mode) = (n % 2, n / 2 % 4, n / 8 % 2);
+            let random = &mut list.random;
+            let drawn = (0..).map(|_| usable::<T>(random)).find(|c| c.depth == depth).unwrap();
+            let c = Codes { sampling, order, packing, mode, ..drawn };
+            let mixed = [(4100.min(most::<T>()), false)];
+            let filling = random.pick(&[&fillings::<T>(&c)[..], &mixed].concat());
+            let mut draw = || {
+                let slack = if random.below(2) == 0 { TIGHT } else { spare(random) };
+                request(c, random.between(17, 341), random.between(1, 3), slack)
+            };
+            let q = (0..).map(|_| draw()).find(fits).unwrap();
+            add::<T>(list, q, filling.0, filling.1);
+        }
     }
 }

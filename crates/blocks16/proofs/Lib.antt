@@ -1,0 +1,2 @@
+pub mod Chroma
+pub mod Pixels
