@@ -130,7 +130,7 @@ pub fn pixel(k: Kernel, y: u16, p: u16, q: u16) -> Letters
     requires { ⌜ Bytes k × (y ≤ 255) × (p ≤ 255) × (q ≤ 255) ⌝ }
     ensures { λ r. ⌜ (r ≡ lettersAt k y p q) × (r .first ≤ 255) × (r .green ≤ 255) × (r .third ≤ 255) × (r .below ≤ 3) × (r .above ≤ 3) ⌝ }
 {
-    numerics::pixel(k, y, p, q)
+    numerics::pixel(k, p, q, y)
 }
 
 // The word of counts of a pair.

@@ -140,7 +140,7 @@ fn block3(
     let n = 8 * eights;
     let mut i: usize = 0;
     while i < n {
-        let a = numerics::pixel(k, y[i], p[i], q[i]);
+        let a = numerics::pixel(k, p[i], q[i], y[i]);
         words[i] = store3(row, 3 * i, a);
         i += 1;
     }
@@ -162,7 +162,7 @@ fn block4(
     let n = 8 * eights;
     let mut i: usize = 0;
     while i < n {
-        let a = numerics::pixel(k, y[i], p[i], q[i]);
+        let a = numerics::pixel(k, p[i], q[i], y[i]);
         words[i] = store4(row, 4 * i, a, k.max);
         i += 1;
     }

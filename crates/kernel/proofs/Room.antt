@@ -1,11 +1,12 @@
 -- The sums of a kernel have room: shown at each depth and range, where the biases and the offset are numbers.
 -- Assumes nothing.
-use Prim.Native.Nat.{ℕ, _+_, _-_, _*_, _≤_}
+use mathlib.Core.Path.{_≡_, refl}
+use Prim.Native.Nat.{ℕ, _+_, _-_, _*_, _/_, _≤_}
 use native.Mathlib.Omega.{arith}
 use lib.Dec.{T}
 use Rattle.yuv_support.specs.declared.YuvRange.{YuvRange}
 use Rattle.yuv_support.specs.declared.YuvRange.the-variants.{Limited, Full}
-use Rattle.yuv_support.specs.Settings.{among, depths, depths16, biasY, biasC}
+use Rattle.yuv_support.specs.Settings.{among, depths, depths16, maxOf, biasY, biasC}
 use Rattle.yuv_support.proofs.Depths.{each-among, by-depth}
 use Rattle.inverse_transform.specs.Narrow.{Narrow}
 use Rattle.numerics.specs.declared.Kernel.{Kernel}
@@ -25,6 +26,18 @@ pub record High (k : Kernel) : Type 0 where
   pub first : 2076180480 ≤ k .«base_first»
   pub third : 2076180480 ≤ k .«base_third»
   pub green : (k .«green_first» + k .«green_third») * 4095 + 1912610816 ≤ k .«base_green»
+
+-- the bias of chroma, from the largest sample
+middle-is : (d : ℕ) → T (among d depths) → maxOf d / 2 + 1 ≡ biasC d
+unfolding maxOf biasC
+middle-is d t = by-depth (λ d. maxOf d / 2 + 1 ≡ biasC d) refl refl refl d t
+
+-- with the biases of chroma put back, the bases are o less luma's bias a
+same-level : (o a b c : ℕ) → a + b ≤ o → a + c ≤ o → o - (a + b) + b ≡ o - (a + c) + c
+same-level o a b c h k = omega arith
+
+green-level : (o a b g : ℕ) → a + b ≤ o → o + g - a ≡ o - (a + b) + b + g
+green-level o a b g h = omega arith
 
 module _ (ky kp gp gq kq : ℕ) (n : Narrow (record { y = ky; cr = kp; cb = kq; g1 = gp; g2 = gq })) where
   abbrev RoomAt : YuvRange → ℕ → Type 0
@@ -92,4 +105,6 @@ module _ (ky kp gp gq kq : ℕ) (n : Narrow (record { y = ky; cr = kp; cb = kq; 
         base-third = omega arith;
         base-green = omega arith;
         green = m .green;
+        level-third = rw (middle-is d t) (same-level (offsetOf d * 8192 + 4096) (ky * biasY d r) (kq * biasC d) (kp * biasC d) (m .third) (m .first));
+        level-green = rw (middle-is d t) (green-level (offsetOf d * 8192 + 4096) (ky * biasY d r) (kp * biasC d) ((gp + gq) * biasC d) (m .first));
       }

@@ -73,6 +73,7 @@ module _ (s : Settings) (u : T (usable s)) where
       record {
         offset = offset-is k ∙ each-among (λ d. offsetOf d ≡ 32511) depths8 (refl, tt) (s .depth) b;
         max = max-is k ∙ each-among (λ d. maxOf d ≡ 255) depths8 (refl, tt) (s .depth) b;
+        half = half-is k;
         roomy = subst (λ (m : ℕ). Roomy m (kernelOf s)) (each-among (λ d. mostOf d ≡ 4095) depths8 (refl, tt) (s .depth) b) (roomy k);
       }
 

@@ -1,8 +1,10 @@
-pub mod Products
-pub mod Sums
 pub mod Choice
-pub mod Row
 pub mod Clips
 pub mod Lowered
 pub mod Parts
+pub mod Products
+pub mod Row
+pub mod Signed
+pub mod SignedSums
+pub mod Sums
 pub mod Tails

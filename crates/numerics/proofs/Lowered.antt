@@ -5,7 +5,7 @@ use Prim.Native.Nat.{ℕ, _+_, _-_, _*_, _≤_}
 use native.Mathlib.Nat.{mul-le-mul-left}
 use native.Mathlib.Omega.{arith}
 use Rattle.numerics.specs.declared.Kernel.{Kernel}
-use Rattle.numerics.specs.Kernel.{belowAt, aboveAt, letterOf, Quick, Words, lowered}
+use Rattle.numerics.specs.Kernel.{belowAt, aboveAt, letterOf, middle, Quick, Words, lowered}
 use Rattle.numerics.proofs.Sums.{lower-value, lower-below, lower-above}
 
 module _ {k : Kernel} (w : Words k) where
@@ -18,12 +18,26 @@ module _ {k : Kernel} (w : Words k) where
   deep : low ≤ k .offset
   deep = omega (arith, w .offset)
 
+  first-room : (k .offset - low) * 8192 ≤ k .«base_first»
+  first-room = omega (arith, down, w .least-first)
+
+  third-room : (k .offset - low) * 8192 ≤ k .«base_third»
+  third-room = omega (arith, down, w .least-third)
+
+  -- bases of one level are of one level when as much is taken off each
+  off-both : (a b c e d : ℕ) → a + b ≡ c + e → d ≤ a → d ≤ c → a - d + b ≡ c - d + e
+  off-both a b c e d h k l = omega arith
+
+  off-green : (g a b c d : ℕ) → g ≡ a + b + c → d ≤ a → g - d ≡ a - d + b + c
+  off-green g a b c d h l = omega arith
+
   pub lowered-quick : Quick (lowered k)
   lowered-quick =
       let r = w .roomy in
       record {
         offset = omega (arith, w .max);
         max = w .max;
+        half = w .half;
         roomy = record {
           luma = r .luma;
           first = r .first;
@@ -34,6 +48,8 @@ module _ {k : Kernel} (w : Words k) where
           base-third = omega (arith, w .offset, w .max, r .base-third);
           base-green = omega (arith, w .offset, w .max, r .base-green);
           green = omega (arith, w .least-green, down);
+          level-third = off-both (k .«base_third») (k .third * middle k) (k .«base_first») (k .first * middle k) ((k .offset - low) * 8192) (r .level-third) third-room first-room;
+          level-green = off-green (k .«base_green») (k .«base_first») (k .first * middle k) ((k .«green_first» + k .«green_third») * middle k) ((k .offset - low) * 8192) (r .level-green) first-room;
         };
       }
 
@@ -65,12 +81,6 @@ module _ {k : Kernel} (w : Words k) where
       where
         off-rest : (t d base : ℕ) → t + d ≤ base → d ≤ base - t
         off-rest t d base h = omega arith
-
-    first-room : (k .offset - low) * 8192 ≤ k .«base_first»
-    first-room = omega (arith, down, w .least-first)
-
-    third-room : (k .offset - low) * 8192 ≤ k .«base_third»
-    third-room = omega (arith, down, w .least-third)
 
     pub lowered-letter : (j : ℕ) → letterOf (lowered k) y p q j ≡ letterOf k y p q j
     unfolding letterOf

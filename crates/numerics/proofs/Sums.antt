@@ -1,24 +1,10 @@
--- What a sum gives: the letter and its counts, from the quotient cut at 32,767, and from a lowered sum.
+-- What a sum gives: the letter and its counts, of any u16 samples, and from a lowered sum.
 -- Assumes nothing.
-use mathlib.Core.Path.{_≡_, _∙_}
+use mathlib.Core.Path.{_≡_}
 use Prim.Native.Nat.{ℕ, _+_, _-_, _*_, _/_, _≤_, _<_, min}
 use native.Mathlib.Omega.{arith}
 use Rattle.numerics.specs.declared.Letter.{Letter}
 use Rattle.numerics.specs.Kernel.{shifted, belowOf, aboveOf, letterOfSum, OneAtMost}
-
--- the quotient n, cut at 32,767 = offset + max + 1
-module _ (n offset max : ℕ) (e : offset + max ≡ 32766) (h : max ≤ 4095) where
-  pub cut-value : min n 32767 - offset - (min n 32767 - offset - max) ≡ min (n - offset) max
-  cut-value = omega arith
-
-  pub cut-below : 1 + (min n 32767 - offset) - (min n 32767 - (offset - 1)) ≡ min (offset - n) 1
-  cut-below = one-less (min n 32767) ∙ let s : offset - min n 32767 ≡ offset - n = omega arith in rw s
-    where
-      one-less : (m : ℕ) → 1 + (m - offset) - (m - (offset - 1)) ≡ min (offset - m) 1
-      one-less m = omega arith
-
-  pub cut-above : min n 32767 - offset - max ≡ min (n - (offset + max)) 1
-  cut-above = omega arith
 
 -- the quotient n of any u16 samples
 pub wide-below : (n : ℕ) → n < 524288 → 1 - n / 262144 ≡ min (262144 - n) 1

@@ -72,7 +72,14 @@ unfoldable pub letterOf : Kernel → ℕ → ℕ → ℕ → ℕ → ℕ
 letterOf k y p q j =
     cond (eqb j 0) (firstOf k y p) (cond (eqb j 1) (greenOf k y p q) (cond (eqb j 2) (thirdOf k y q) (k .max)))
 
--- no sum of samples up to `most` falls below 0 or rises far above the offset
+-- the bias of chroma, and what a sum has besides its products where the bias is taken off the samples: the same for all three letters
+abbrev pub middle : Kernel → ℕ
+middle k = k .max / 2 + 1
+
+abbrev pub level : Kernel → ℕ
+level k = k .«base_first» + k .first * middle k
+
+-- no sum of samples up to `most` falls below 0 or rises far above the offset, and the bases are those of one level
 pub record Roomy (most : ℕ) (k : Kernel) : Type 0 where
   pub luma : k .y ≤ 16383
   pub first : k .y + k .first ≤ 32767
@@ -83,17 +90,21 @@ pub record Roomy (most : ℕ) (k : Kernel) : Type 0 where
   pub base-third : k .«base_third» ≤ k .offset * 8192 + 4096
   pub base-green : k .«base_green» ≤ k .offset * 8192 + 67110912
   pub green : (k .«green_first» + k .«green_third») * most ≤ k .«base_green»
+  pub level-third : k .«base_third» + k .third * middle k ≡ level k
+  pub level-green : k .«base_green» ≡ level k + (k .«green_first» + k .«green_third») * middle k
 
 -- a kernel whose quotients fit 16 bits, of samples up to 4,095: 32,767, where they are cut, is one above the largest letter
 pub record Quick (k : Kernel) : Type 0 where
   pub offset : k .offset + k .max ≡ 32766
   pub max : k .max ≤ 4095
+  pub half : k .half ≡ 8
   pub roomy : Roomy 4095 k
 
 -- the kernel of byte letters, and of u16 letters
 pub record Bytes (k : Kernel) : Type 0 where
   pub offset : k .offset ≡ 32511
   pub max : k .max ≡ 255
+  pub half : k .half ≡ 8
   pub roomy : Roomy 4095 k
 
 pub record Words (k : Kernel) : Type 0 where

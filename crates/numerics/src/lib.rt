@@ -1,20 +1,26 @@
 // The arithmetic of a pixel: blended chroma samples, the rounding that makes a component and tells whether it was clipped, and counts.
 // A pixel's letters are taken as first, green and third: red, green, blue in RGB and RGBA, and blue, green, red in BGR and BGRA.
-// A sum is kept above its value by a multiple of 8,192, so that it never falls below 0: 32,511 of them for bytes, and 262,144 for u16
-// samples, which may be anything up to 65,535. Where these are below 4,096, 32,766 less the largest letter are enough (`lowered`).
+// A kernel's sum is kept above its value by a multiple of 8,192, so that it never falls below 0: 32,511 of them for bytes, and 262,144 for
+// u16 samples, which may be anything up to 65,535. Where these are below 4,096, 32,766 less the largest letter are enough (`lowered`), and
+// there, as for bytes, the code takes them off again and adds up signed numbers.
 ghost use mathlib.Core.Path.{_≡_};
 ghost use Prim.Native.Nat.{ℕ, _+_, _-_, _*_, _/_, _%_, _≤_, _<_, min};
-ghost use lib.IntN.{pos, natAbs};
+ghost use mathlib.Core.Bool.{cond};
+ghost use lib.IntN.{pos, _+ℤ_, _-ℤ_};
+ghost use lib.Signed.{ltZ};
 ghost use lib.ListN.{length};
 ghost use Rattle.yuv_support.specs.Blend.{Cr, rounded, tailOf};
+ghost use Rattle.yuv_support.specs.Component.{step};
 ghost use Rattle.yuv_support.specs.Counts.{together, total};
-ghost use Rattle.numerics.specs.Kernel.{letterOfSum, OneAtMost, lettersOf, lettersAt, Quick, Words, lowered};
+ghost use Rattle.numerics.specs.Kernel.{letterOfSum, OneAtMost, lettersOf, lettersAt, middle, level, Quick, Words, lowered};
+ghost use Rattle.numerics.specs.Signed.{minZ, cut, natOf, signedLetter};
 ghost use Rattle.numerics.specs.Row.{at};
 use yuv_support::Clipped;
 use yuv_support::YuvMode;
 
 // The coefficients of a pixel's letters, with the biases, the rounding and the offset folded into one constant for each letter.
-// half is 8, half of sixteen sixteenths: a number of run time, so that the compiler keeps a blended u16 sample in 16 bits.
+// half is 8, half of sixteen sixteenths: a number of run time, so that the compiler keeps a blended u16 sample in 16 bits, and does not know
+// the 0 that is made of it.
 pub struct Kernel {
     pub offset: u32,
     pub max: u16,
@@ -45,9 +51,9 @@ pub struct Letters {
     pub above: u16,
 }
 
-// ---- sums whose quotients fit 16 bits
+// ---- samples below 4,096: signed sums
 
-// A coefficient times a sample. Both are said to be below 32,768, so that the compiler multiplies 16 bits by 16.
+// A coefficient times a luma sample. Both are said to be below 32,768, so that the compiler multiplies 16 bits by 16.
 fn product(k: u16, x: u16) -> u32
     requires { ⌜ (k ≤ 32767) × (x ≤ 4095) ⌝ }
     ensures { λ r. ⌜ (r ≡ k * x) × (r ≤ k * 4095) ⌝ }
@@ -55,64 +61,64 @@ fn product(k: u16, x: u16) -> u32
     (k % 32768) as u32 * (x % 32768) as u32
 }
 
-// Cut to an i16 at both ends, as the compiler's packing does. No sum comes near the lower end.
+// A coefficient times a chroma sample less its bias.
+fn signed_product(k: u16, x: u16, bias: u16) -> i32
+    requires { ⌜ (k ≤ 32767) × (x ≤ 4095) × (bias ≤ 4095) ⌝ }
+    ensures { λ r. ⌜ r ≡ step k x bias ⌝ }
+{
+    (k % 32768) as i32 * ((x as i16 - bias as i16) as i32)
+}
+
+// What chroma adds to a letter. Both samples are multiplied for each letter, by 0 where the letter takes one, so that the compiler puts
+// them side by side once for all three.
+fn chroma(kp: u16, kq: u16, p: u16, q: u16, bias: u16) -> i32
+    requires { ⌜ (kp ≤ 32767) × (kq ≤ 32767) × (p ≤ 4095) × (q ≤ 4095) × (bias ≤ 4095) ⌝ }
+    ensures { λ r. ⌜ r ≡ step kp p bias +ℤ step kq q bias ⌝ }
+{
+    signed_product(kp, p, bias) + signed_product(kq, q, bias)
+}
+
+// Cut to an i16 at both ends, as the compiler's packing does.
 fn packed(q: i32) -> i16
-    requires { ⌜ q ≡ pos (natAbs q) ⌝ }
-    ensures { λ r. ⌜ r ≡ pos (min (natAbs q) 32767) ⌝ }
+    ensures { λ r. ⌜ r ≡ cut q ⌝ }
 {
     let a = if q < -32768 { -32768 } else { q };
     let b = if 32767 < a { 32767 } else { a };
     b as i16
 }
 
-fn saturating_sub16(a: u16, b: u16) -> u16
-    ensures { λ r. ⌜ r ≡ a - b ⌝ }
+// The lesser of two; 1 if a is less than b; and a number, or 0 where it is below 0.
+fn lesser(a: i16, b: i16) -> i16
+    ensures { λ r. ⌜ r ≡ minZ a b ⌝ }
 {
-    if a < b { 0 } else { a - b }
+    if b < a { b } else { a }
 }
 
-// Saturating rounding shift right, of a sum that is offset·8,192 above its value. 32,767 is offset + max + 1.
-fn qrshr(sum: u32, offset: u16, max: u16) -> Letter
-    requires { ⌜ (sum < 536870912) × (offset + max ≡ 32766) × (max ≤ 4095) ⌝ }
-    ensures { λ r. ⌜ r ≡ letterOfSum offset max sum ⌝ }
+fn is_less(a: i16, b: i16) -> u16
+    ensures { λ r. ⌜ r ≡ cond (ltZ a b) 1 0 ⌝ }
 {
-    let q = packed(sum as i32 >> 13) as u16;
-    let least = saturating_sub16(q, offset - 1);
-    let v = saturating_sub16(q, offset);
-    let above = saturating_sub16(v, max);
+    if a < b { 1 } else { 0 }
+}
+
+fn not_below_0(a: i16) -> u16
+    ensures { λ r. ⌜ r ≡ natOf a ⌝ }
+{
+    if a < 0 { 0 } else { a as u16 }
+}
+
+// Saturating rounding shift right, of a sum that has the 4,096 in it.
+fn qrshr(sum: i32, max: u16) -> Letter
+    requires { ⌜ max ≤ 4095 ⌝ }
+    ensures { λ r. ⌜ r ≡ signedLetter max sum ⌝ }
+{
+    let q = packed(sum >> 13);
+    let top = max as i16;
+    let least = lesser(q, top);
     Letter {
-        value: v - above,
-        below: 1 + v - least,
-        above,
+        value: not_below_0(least),
+        below: is_less(least, 0),
+        above: is_less(top, q),
     }
-}
-
-// The first or the third letter, of luma y and its chroma sample c.
-fn outer(ky: u16, kc: u16, base: u32, offset: u16, max: u16, y: u16, c: u16) -> Letter
-    requires { ⌜ (ky + kc ≤ 32767) × (base ≤ offset * 8192 + 4096) × (offset + max ≡ 32766) × (max ≤ 4095) × (y ≤ 4095) × (c ≤ 4095) ⌝ }
-    ensures { λ r. ⌜ r ≡ letterOfSum offset max (ky * y + kc * c + base) ⌝ }
-{
-    qrshr(product(ky, y) + product(kc, c) + base, offset, max)
-}
-
-// Green, of luma y and the chroma samples p and q of the first and the third letter.
-fn inner(
-    ky: u16,
-    kp: u16,
-    kq: u16,
-    base: u32,
-    offset: u16,
-    max: u16,
-    y: u16,
-    p: u16,
-    q: u16,
-) -> Letter
-    requires { ⌜ (ky ≤ 16383) × (kp ≤ 32767) × (kq ≤ 32767) × (base ≤ offset * 8192 + 67110912) × ((kp + kq) * 4095 ≤ base) ⌝ }
-    requires { ⌜ (offset + max ≡ 32766) × (max ≤ 4095) × (y ≤ 4095) × (p ≤ 4095) × (q ≤ 4095) ⌝ }
-    ensures { λ r. ⌜ r ≡ letterOfSum offset max (ky * y + base - (kp * p + kq * q)) ⌝ }
-{
-    let taken = product(kp, p) + product(kq, q);
-    qrshr(product(ky, y) + base - taken, offset, max)
 }
 
 // The three letters, and how many of them were clipped.
@@ -129,26 +135,28 @@ fn joined(first: Letter, green: Letter, third: Letter) -> Letters
     }
 }
 
-// The letters of a pixel from luma y and the chroma samples p and q of the first and the third letter.
-pub fn pixel(k: Kernel, y: u16, p: u16, q: u16) -> Letters
+// Luma, with the biases and the rounding, of all three letters.
+fn luma(k: Kernel, y: u16, bias: u16) -> i32
+    requires { ⌜ Quick k × (y ≤ 4095) × (bias ≡ middle k) ⌝ }
+    ensures { λ r. ⌜ r ≡ pos (k .y * y) +ℤ (pos (level k) -ℤ pos (k .offset * 8192)) ⌝ }
+{
+    let base = (k.base_first + k.first as u32 * bias as u32) as i32 - (k.offset * 8192) as i32;
+    product(k.y, y) as i32 + base
+}
+
+// The letters of a pixel from the chroma samples p and q of the first and the third letter and luma y. They are read in this order, so that
+// the compiler adds the two products of chroma first; z is 0, a number of run time.
+pub fn pixel(k: Kernel, p: u16, q: u16, y: u16) -> Letters
     requires { ⌜ Quick k × (y ≤ 4095) × (p ≤ 4095) × (q ≤ 4095) ⌝ }
     ensures { λ r. ⌜ r ≡ lettersAt k y p q ⌝ }
 {
-    let offset = k.offset as u16;
     let max = k.max;
-    let a = outer(k.y, k.first, k.base_first, offset, max, y, p);
-    let b = inner(
-        k.y,
-        k.green_first,
-        k.green_third,
-        k.base_green,
-        offset,
-        max,
-        y,
-        p,
-        q,
-    );
-    let c = outer(k.y, k.third, k.base_third, offset, max, y, q);
+    let z = (k.half - 8) as u16;
+    let bias = max / 2 + 1;
+    let l = luma(k, y, bias);
+    let a = qrshr(l + chroma(k.first, z, p, q, bias), max);
+    let b = qrshr(l - chroma(k.green_first, k.green_third, p, q, bias), max);
+    let c = qrshr(l + chroma(z, k.third, p, q, bias), max);
     joined(a, b, c)
 }
 

@@ -1,14 +1,14 @@
 -- A whole number with a sign as the difference a − b of two natural numbers, so that `omega`, which reads natural numbers only, proves
 -- facts about signed sums. The subtraction of natural numbers stops at 0, and is the lower clamp.
 -- Assumes nothing.
-use mathlib.Core.Path.{_≡_, ap, _∙_}
+use mathlib.Core.Path.{_≡_, refl, ap, _∙_}
 use mathlib.Core.Bool.{Bool, true, false, not, cond}
 use Prim.Native.Nat.{ℕ, zero, suc, _+_, _-_, _*_, _/_, _≤_, _<_, min}
 use native.Mathlib.Nat.{zero-div}
 use native.Mathlib.Omega.{arith}
 use lib.Dec.{T, ltb, ltb→lt, nltb→le}
 use lib.IntN.{ℤ, pos, negsuc, subℕ, negℤ, _+ℤ_, _-ℤ_, _*ℤ_}
-use lib.Signed.{shrZ}
+use lib.Signed.{mag, shrZ}
 use Rattle.yuv_support.specs.declared.CbCrInverseTransform.{CbCrInverseTransform}
 use Rattle.yuv_support.specs.Component.{Component, R, G, B, step, clamp, sumOf, quotient}
 use Rattle.yuv_support.specs.Counts.{isBelow, isAbove}
@@ -67,6 +67,15 @@ pub step-is : (k x x₀ : ℕ) → Is (k * x) (k * x₀) (step k x x₀)
 unfolding step
 step-is k x x₀ = record { is = times k x x₀ (pos x -ℤ pos x₀) (shift-is x x₀ (omega arith) (less (nat x) (nat x₀)) .is) }
 
+-- ---- how large it is
+
+magnitude : (n a b : ℕ) (z : ℤ) → a ≤ n → b ≤ n → Difference a b z → mag z ≤ n
+magnitude n a b (pos c) ha hb h = omega arith
+magnitude n a b (negsuc c) ha hb h = omega arith
+
+pub mag-is : (n : ℕ) {a b : ℕ} {z : ℤ} → a ≤ n → b ≤ n → Is a b z → mag z ≤ n
+mag-is n {a} {b} {z} ha hb h = magnitude n a b z ha hb (h .is)
+
 -- ---- clamped, and clamped after a division
 
 clamped : (m a b : ℕ) (z : ℤ) → Difference a b z → clamp m z ≡ min (a - b) m
@@ -102,6 +111,13 @@ more-than m n = go (ltb m n) (ltb→lt m n) (nltb→le m n)
 above-by : (o m sum a b : ℕ) (z : ℤ) → sum + b ≡ a + o * 8192 → Difference a b z → isAbove m (shrZ z 8192) ≡ min (sum / 8192 - (o + m)) 1
 above-by o m sum a b (pos c) e h = more-than m (c / 8192) ∙ ap (λ (x : ℕ). min x 1) (let d : c / 8192 - m ≡ sum / 8192 - (o + m) = omega arith in d)
 above-by o m sum a b (negsuc c) e h = omega arith
+
+-- where a is o·8,192 above z
+pub shifted-below : (o : ℕ) {a : ℕ} {z : ℤ} → Is a (o * 8192) z → isBelow (shrZ z 8192) ≡ min (o - a / 8192) 1
+shifted-below o {a} {z} h = below-by o a a (o * 8192) z refl (h .is)
+
+pub shifted-above : (o m : ℕ) {a : ℕ} {z : ℤ} → Is a (o * 8192) z → isAbove m (shrZ z 8192) ≡ min (a / 8192 - (o + m)) 1
+shifted-above o m {a} {z} h = above-by o m a a (o * 8192) z refl (h .is)
 
 -- the same of a quotient, which adds 4,096
 module _ (o sum : ℕ) {a b : ℕ} {z : ℤ} (e : sum + b ≡ a + o * 8192 + 4096) (h : Is a b z) where

@@ -10,6 +10,8 @@ pub mod random;
 pub mod reading;
 pub mod reference;
 pub mod tally;
+#[cfg(feature = "level_a")]
+pub mod timing;
 
 /// What a conversion answers: 0, 0, 0 and what was clipped, or the first question that got a "no",
 /// and then 0 and 0.

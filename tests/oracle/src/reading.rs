@@ -89,31 +89,50 @@ enum Chroma {
 
 /// Cb or Cr of the pixel at row r and column c, blended and rounded down.
 fn chroma<T: Element>(q: &Request, which: Chroma, plane: &[T], stride: u32, r: u32, c: u32) -> i64 {
+    let (sum, weights) = blended(q, which, plane, stride, r, c);
+    (sum + weights / 2) / weights
+}
+
+/// Cb or Cr before it is rounded: the weighted sum of its samples, and the sum of the weights.
+fn blended<T: Element>(
+    q: &Request, which: Chroma, plane: &[T], stride: u32, r: u32, c: u32,
+) -> (i64, i64) {
     let (near, far) = chroma_rows(q, r);
     let (k, side) = (c / 2, c % 2);
     let at = |row: u32, column: u32| sample(q, plane, stride, row, column);
     match (two_rows(q, r), tail(q, c)) {
-        (false, true) => at(near, k),
+        (false, true) => (at(near, k), 1),
         // as in the source, Cr's tail has the weights the other way round
         (true, true) if q.codes.mode == 0 && which == Chroma::Cr => {
-            (at(near, k) + 3 * at(far, k) + 2) / 4
+            (at(near, k) + 3 * at(far, k), 4)
         }
-        (true, true) => (3 * at(near, k) + at(far, k) + 2) / 4,
+        (true, true) => (3 * at(near, k) + at(far, k), 4),
         (false, false) => {
             let (a, b) = (at(near, k), at(near, k + 1));
             match side {
-                0 => (3 * a + b + 2) / 4,
-                _ => (a + 3 * b + 2) / 4,
+                0 => (3 * a + b, 4),
+                _ => (a + 3 * b, 4),
             }
         }
         (true, false) => {
             let (a, b, c, e) = (at(near, k), at(near, k + 1), at(far, k), at(far, k + 1));
             match side {
-                0 => (9 * a + 3 * b + 3 * c + e + 8) / 16,
-                _ => (3 * a + 9 * b + c + 3 * e + 8) / 16,
+                0 => (9 * a + 3 * b + 3 * c + e, 16),
+                _ => (3 * a + 9 * b + c + 3 * e, 16),
             }
         }
     }
+}
+
+/// Document 01's exact equation of blue at row r and column c, of 8 bits, limited BT.709: chroma
+/// blended but not rounded, the value clamped.
+pub fn exact_blue(q: &Request, planes: &Planes<u8>, r: u32, c: u32) -> f64 {
+    let (max, bias_y, bias_c, range_y, range_c, kb) = (255.0, 16.0, 128.0, 219.0, 224.0, 0.0722);
+    let luma = sample(q, &planes[0], q.y.stride, r, c) as f64;
+    let (sum, weights) = blended(q, Chroma::Cb, &planes[1], q.u.stride, r, c);
+    let cb = sum as f64 / weights as f64;
+    let value = (luma - bias_y) * max / range_y + 2.0 * (1.0 - kb) * (cb - bias_c) * max / range_c;
+    value.clamp(0.0, max)
 }
 
 /// The near and the far chroma row of luma row r; the same one twice where only one is used.

@@ -1,0 +1,184 @@
+//! Times frames against the scalar Rust: one thread, in turns, pixels and counts compared.
+use crate::cases::{planes, request, Samples, TIGHT};
+use crate::library::Convert;
+use crate::{random::Random, reading, reference, Answer, Codes, Planes, Request};
+use std::hint::black_box;
+use std::time::Instant;
+
+/// 8 bits, 4:2:0 to RGBA, limited BT.709.
+pub const FRAME: Codes = Codes {
+    depth: 8,
+    sampling: 0,
+    order: 1,
+    range: 0,
+    matrix: 1,
+    packing: 0,
+    mode: 0,
+    kr: 0.0,
+    kb: 0.0,
+};
+
+/// The settings of a frame in words.
+pub fn name(codes: &Codes) -> String {
+    let packing = ["", " high"][codes.packing as usize];
+    let sampling = ["4:2:0", "4:2:2"][codes.sampling as usize];
+    let order = ["RGB", "RGBA", "BGRA", "BGR"][codes.order as usize];
+    format!("{} bits{packing}, {sampling} to {order}", codes.depth)
+}
+
+/// The samples of a frame: random within the depth; rising slowly; or random, with Cb and Cr constant
+/// in each patch.
+#[derive(Clone, Copy, PartialEq)]
+pub enum Content {
+    Random,
+    Smooth,
+    Patches,
+}
+
+/// The sides of a patch, in luma samples.
+pub const PATCH: u32 = 64;
+
+/// A frame that is to be timed.
+#[derive(Clone, Copy)]
+pub struct Task {
+    pub codes: Codes,
+    pub sides: (u32, u32),
+    pub content: Content,
+}
+
+/// A frame with the pictures that the library and the Rust make of it. Samples in the high bits are
+/// divided for the Rust beforehand, so that dividing is not counted for it; for the library it is.
+pub struct Frame<T> {
+    pub request: Request,
+    pub planes: Planes<T>,
+    pub ours: Vec<T>,
+    pub rust: Vec<T>,
+    low: Request,
+    divided: Option<Planes<T>>,
+    answer: Answer,
+    wanted: Answer,
+}
+
+impl<T: Convert> Frame<T> {
+    /// The frame, converted once by both.
+    pub fn new(Task { codes, sides, content }: Task) -> Frame<T> {
+        let q = request(codes, sides.0, sides.1, TIGHT);
+        let planes = match content {
+            Content::Random => planes(&mut Random(7), Samples::Within, &q),
+            Content::Smooth => gradient(&q),
+            Content::Patches => patches(&q),
+        };
+        let (ours, mut rust) = (vec![T::low(0); q.rgb.len], vec![T::low(1); q.rgb.len]);
+        let mut frame = Frame {
+            wanted: Answer::default().with(reading::convert(&q, &planes, &mut rust)),
+            answer: Answer::default(),
+            low: Request { codes: Codes { packing: 0, ..codes }, ..q },
+            divided: reference::divided(&codes, &planes),
+            request: q,
+            planes,
+            ours,
+            rust,
+        };
+        frame.convert_ours();
+        frame.convert_rust();
+        frame
+    }
+
+    pub fn convert_ours(&mut self) {
+        let request = black_box(&self.request);
+        self.answer = black_box(T::convert(request, &mut self.planes, &mut self.ours));
+    }
+
+    pub fn convert_rust(&mut self) {
+        let planes = self.divided.as_ref().unwrap_or(&self.planes);
+        let outcome = T::reference(black_box(&self.low), planes, &mut self.rust);
+        black_box(outcome).expect("accepted");
+    }
+
+    /// Whether the pixels are the Rust's and the counts those of the second reading.
+    pub fn same(&self) -> bool {
+        self.answer == self.wanted && self.ours == self.rust
+    }
+}
+
+/// Median times in ms, each at its contender's place.
+pub type Times = Vec<f64>;
+
+/// The places of the library, of the Rust, and of a copy of as many bytes as the picture has.
+pub const OURS: usize = 0;
+pub const RUST: usize = 1;
+pub const COPY: usize = 2;
+
+/// The times of a frame's first `count` contenders, and whether the pixels and the counts are equal
+/// before and after.
+pub fn measure(task: Task, count: usize, rounds: usize, batch: usize) -> (Times, bool) {
+    match task.codes.depth {
+        8 => measure_of::<u8>(task, count, rounds, batch),
+        #[cfg(feature = "level_b")]
+        _ => measure_of::<u16>(task, count, rounds, batch),
+        #[cfg(not(feature = "level_b"))]
+        depth => panic!("{depth} bits need level_b"),
+    }
+}
+
+fn measure_of<T: Convert>(task: Task, count: usize, rounds: usize, batch: usize) -> (Times, bool) {
+    let mut frame = Frame::<T>::new(task);
+    let first = frame.same();
+    let (from, mut to) = (frame.ours.clone(), frame.rust.clone());
+    let times = in_turns(count, rounds, batch, |which| match which {
+        OURS => frame.convert_ours(),
+        RUST => frame.convert_rust(),
+        _ => black_box(&mut to).copy_from_slice(black_box(&from)),
+    });
+    (times, first && frame.same())
+}
+
+/// The times of contenders that run in turns, forwards in one round and backwards in the next, so
+/// that none always runs after the same other. A time is that of a batch of calls, divided.
+pub fn in_turns(count: usize, rounds: usize, batch: usize, mut run: impl FnMut(usize)) -> Times {
+    let mut times = vec![Vec::new(); count];
+    for turn in 0..count * rounds {
+        let (round, place) = (turn / count, turn % count);
+        let which = if round % 2 == 0 { place } else { count - 1 - place };
+        let start = Instant::now();
+        (0..batch).for_each(|_| run(which));
+        times[which].push(start.elapsed().as_secs_f64() * 1000.0 / batch as f64);
+    }
+    times.into_iter().map(median).collect()
+}
+
+pub fn median(mut times: Vec<f64>) -> f64 {
+    times.sort_by(f64::total_cmp);
+    times[times.len() / 2]
+}
+
+/// Luma rising along the diagonal, Cb along the columns, Cr along the rows.
+fn gradient<T: Convert>(q: &Request) -> Planes<T> {
+    let max = (1 << if q.codes.packing == 1 { 16 } else { q.codes.depth }) - 1;
+    let plane = |len: usize, stride: u32, across: usize, down: usize| {
+        let value = move |i: usize| {
+            let (row, column) = (i / stride as usize, i % stride as usize);
+            (column * across + row * down) * max
+                / (stride as usize * across + len / stride as usize * down)
+        };
+        (0..len).map(|i| T::low(value(i) as u16)).collect()
+    };
+    [
+        plane(q.y.len, q.y.stride, 1, 1),
+        plane(q.u.len, q.u.stride, 1, 0),
+        plane(q.v.len, q.v.stride, 0, 1),
+    ]
+}
+
+/// Random samples, where the Cb and Cr of a patch of 4:2:0 are those of its first pixel.
+fn patches<T: Convert>(q: &Request) -> Planes<T> {
+    let mut planes = planes::<T>(&mut Random(7), Samples::Within, q);
+    let (side, stride) = (PATCH as usize / 2, q.u.stride as usize);
+    for plane in &mut planes[1..] {
+        for i in 0..plane.len() {
+            let (row, column) = (i / stride, i % stride);
+            plane[i] = plane[row / side * side * stride + column / side * side];
+        }
+    }
+    planes
+}
