@@ -26,8 +26,8 @@ pub fn name(codes: &Codes) -> String {
     format!("{} bits{packing}, {sampling} to {order}", codes.depth)
 }
 
-/// The samples of a frame: random within the depth; rising slowly; or random, with Cb and Cr constant
-/// in each patch.
+/// The samples of a frame: random within the depth; rising slowly; or, of 8 bits, random within the
+/// limited range, with Cb and Cr constant in each patch.
 #[derive(Clone, Copy, PartialEq)]
 pub enum Content {
     Random,
@@ -60,13 +60,14 @@ pub struct Frame<T> {
 }
 
 impl<T: Convert> Frame<T> {
-    /// The frame, converted once by both.
-    pub fn new(Task { codes, sides, content }: Task) -> Frame<T> {
+    /// The frame, converted once by both. Random samples go by the seed.
+    pub fn new(Task { codes, sides, content }: Task, seed: u64) -> Frame<T> {
         let q = request(codes, sides.0, sides.1, TIGHT);
+        let random = planes(&mut Random(seed), Samples::Within, &q);
         let planes = match content {
-            Content::Random => planes(&mut Random(7), Samples::Within, &q),
+            Content::Random => random,
             Content::Smooth => gradient(&q),
-            Content::Patches => patches(&q),
+            Content::Patches => patches(&q, random),
         };
         let (ours, mut rust) = (vec![T::low(0); q.rgb.len], vec![T::low(1); q.rgb.len]);
         let mut frame = Frame {
@@ -109,8 +110,9 @@ pub const OURS: usize = 0;
 pub const RUST: usize = 1;
 pub const COPY: usize = 2;
 
-/// The times of a frame's first `count` contenders, and whether the pixels and the counts are equal
-/// before and after.
+/// The times of the first `count` contenders, and whether the pixels and the counts are equal before
+/// and after. A batch has as many frames, each with random samples of its own: of one small frame over
+/// and over the processor would learn which branch each pixel takes.
 pub fn measure(task: Task, count: usize, rounds: usize, batch: usize) -> (Times, bool) {
     match task.codes.depth {
         8 => measure_of::<u8>(task, count, rounds, batch),
@@ -122,26 +124,33 @@ pub fn measure(task: Task, count: usize, rounds: usize, batch: usize) -> (Times,
 }
 
 fn measure_of<T: Convert>(task: Task, count: usize, rounds: usize, batch: usize) -> (Times, bool) {
-    let mut frame = Frame::<T>::new(task);
-    let first = frame.same();
-    let (from, mut to) = (frame.ours.clone(), frame.rust.clone());
-    let times = in_turns(count, rounds, batch, |which| match which {
-        OURS => frame.convert_ours(),
-        RUST => frame.convert_rust(),
-        _ => black_box(&mut to).copy_from_slice(black_box(&from)),
+    let mut frames: Vec<Frame<T>> = (7..).take(batch).map(|seed| Frame::new(task, seed)).collect();
+    let same = |frames: &[Frame<T>]| frames.iter().all(Frame::same);
+    let first = same(&frames);
+    let mut copies: Vec<_> = frames.iter().map(|f| (f.ours.clone(), f.rust.clone())).collect();
+    let times = in_turns(count, rounds, batch, |which, i| match which {
+        OURS => frames[i].convert_ours(),
+        RUST => frames[i].convert_rust(),
+        _ => {
+            let (from, to) = &mut copies[i];
+            black_box(to).copy_from_slice(black_box(from));
+        }
     });
-    (times, first && frame.same())
+    (times, first && same(&frames))
 }
 
 /// The times of contenders that run in turns, forwards in one round and backwards in the next, so
-/// that none always runs after the same other. A time is that of a batch of calls, divided.
-pub fn in_turns(count: usize, rounds: usize, batch: usize, mut run: impl FnMut(usize)) -> Times {
+/// that none always runs after the same other. `run` gets the contender and the call's number in the
+/// batch; a time is that of a batch of calls, divided.
+pub fn in_turns(
+    count: usize, rounds: usize, batch: usize, mut run: impl FnMut(usize, usize),
+) -> Times {
     let mut times = vec![Vec::new(); count];
     for turn in 0..count * rounds {
         let (round, place) = (turn / count, turn % count);
         let which = if round % 2 == 0 { place } else { count - 1 - place };
         let start = Instant::now();
-        (0..batch).for_each(|_| run(which));
+        (0..batch).for_each(|i| run(which, i));
         times[which].push(start.elapsed().as_secs_f64() * 1000.0 / batch as f64);
     }
     times.into_iter().map(median).collect()
@@ -170,15 +179,15 @@ fn gradient<T: Convert>(q: &Request) -> Planes<T> {
     ]
 }
 
-/// Random samples, where the Cb and Cr of a patch of 4:2:0 are those of its first pixel.
-fn patches<T: Convert>(q: &Request) -> Planes<T> {
-    let mut planes = planes::<T>(&mut Random(7), Samples::Within, q);
+/// Random samples put into the limited range of 8 bits, where the Cb and Cr of a patch of 4:2:0 are
+/// those of its first pixel.
+fn patches<T: Convert>(q: &Request, random: Planes<T>) -> Planes<T> {
+    let limited = |sample: T, range: i64| T::low(16 + (sample.into() % (range + 1)) as u16);
+    let [y, u, v] = random;
     let (side, stride) = (PATCH as usize / 2, q.u.stride as usize);
-    for plane in &mut planes[1..] {
-        for i in 0..plane.len() {
-            let (row, column) = (i / stride, i % stride);
-            plane[i] = plane[row / side * side * stride + column / side * side];
-        }
-    }
-    planes
+    let chroma = |plane: Vec<T>| {
+        let first = |i: usize| i / stride / side * side * stride + i % stride / side * side;
+        (0..plane.len()).map(|i| limited(plane[first(i)], 224)).collect()
+    };
+    [y.into_iter().map(|sample| limited(sample, 219)).collect(), chroma(u), chroma(v)]
 }

@@ -24,6 +24,7 @@ const CONTENTS: [Content; 3] = [Content::Random, Content::Smooth, Content::Patch
 const BOUND: f64 = 1.6;
 
 const SIDES: (u32, u32) = (1920, 1080);
+const SEED: u64 = 7;
 
 fn task(content: Content) -> Task {
     Task { codes: FRAME, sides: SIDES, content }
@@ -35,10 +36,10 @@ fn differ() -> String {
 
 /// The times of all converters, in the order of `all`.
 pub fn times(rounds: usize) -> Result<Times, String> {
-    let mut frame = Frame::<u8>::new(task(Content::Random));
+    let mut frame = Frame::<u8>::new(task(Content::Random), SEED);
     let q = frame.request;
     let mut peers = peers::linked(&q);
-    let times = in_turns(2 + peers.len(), rounds, 1, |which| match which {
+    let times = in_turns(2 + peers.len(), rounds, 1, |which, _| match which {
         OURS => frame.convert_ours(),
         RUST => frame.convert_rust(),
         other => peers[other - 2].convert(&q, &frame.planes),
@@ -63,7 +64,7 @@ pub fn all() -> Result<Vec<Other>, String> {
 
 /// The distances of all converters, in the order of `all`.
 fn distances(content: Content) -> Result<Vec<Distance>, String> {
-    let frame = Frame::<u8>::new(task(content));
+    let frame = Frame::<u8>::new(task(content), SEED);
     let exact = Exact::new(&frame, content);
     let mut distances = vec![exact.distance(&frame.ours), exact.distance(&frame.rust)];
     for mut peer in peers::linked(&frame.request) {

@@ -78,7 +78,7 @@ mod libyuv {
         fn MaskCpuFlags(flags: c_int) -> c_int;
     }
 
-    /// `enum FilterMode`; of 4:2:0 libyuv refuses kFilterLinear.
+    /// `enum FilterMode`; kFilterLinear is refused.
     const NONE: c_int = 0;
     const BILINEAR: c_int = 2;
 

@@ -1,6 +1,6 @@
 //! The measured part of docs/SPEED.md.
 use crate::others::Other;
-use crate::{peers, titled, Measured, PASSES, ROUNDS};
+use crate::{peers, titled, Measured, BATCH, PASSES, ROUNDS};
 use oracle::timing::{Task, Times, COPY, OURS, RUST};
 
 pub fn markdown(measured: &Measured, machine: &[(&str, String)]) -> String {
@@ -35,6 +35,7 @@ fn manner() -> String {
         "Limited BT.709, one thread, release builds, buffers written beforehand. Ours, the Rust and \
          the copy run in turns, and the others in turns with ours and the Rust: medians of 5 to \
          {ROUNDS} rounds, and of each figure the middle of {PASSES} passes over the whole list. \
+         A timing goes over at least {BATCH} pixels, of small frames over as many different ones. \
          Pixels and counts of every frame are equal before and after."
     )
 }
