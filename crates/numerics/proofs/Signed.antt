@@ -1,14 +1,15 @@
--- Numbers with a sign: those that are not below 0, those that fit, and the letter of a signed sum.
+-- Numbers with a sign: those that are not below 0, those that fit and are read back from their bits, products, and the letter of a sum.
+-- A number is shown to fit as a difference of natural numbers (`Is`), which `omega` reads.
 -- Assumes nothing.
 use mathlib.Core.Path.{_≡_, refl, subst}
 use mathlib.Core.Bool.{Bool, true, false, cond}
-use Prim.Native.Nat.{ℕ, _+_, _-_, _*_, _/_, _%_, _≤_, _<_, _^_, min}
+use Prim.Native.Nat.{ℕ, _+_, _-_, _*_, _/_, _%_, _≤_, _<_, min}
 use native.Mathlib.Nat.{lt-of-le-of-lt, mul-le-mul}
 use native.Mathlib.Omega.{arith}
 use borrow.Author.Tests.{ltb-true, ltb-false, lt-ltb, le-ltb}
 use lib.Dec.{T, ltb}
 use lib.IntN.{ℤ, pos, negsuc, natAbs, _+ℤ_, _-ℤ_, _*ℤ_}
-use lib.Signed.{ltZ, nonNeg, mag, mag-shr, shrZ}
+use lib.Signed.{ltZ, nonNeg, mag-shr, shrZ}
 use mir.Syntax.{w16, w32}
 use mir.Val.{Fits, SFits, toZ, ofZ}
 use mir.Facts.{toZ-pos}
@@ -16,7 +17,6 @@ use mir.ValLaws.{toZ-ofZ}
 use Rattle.yuv_support.specs.Component.{step, clamp}
 use Rattle.yuv_support.specs.Counts.{isBelow, isAbove}
 use Rattle.yuv_support.proofs.Sign.{Is, nat, plus, less, shift-is, step-is, mag-is, shifted-is, shifted-below, shifted-above}
-use Rattle.numerics.specs.declared.Letter.{Letter}
 use Rattle.numerics.specs.Kernel.{letterOfSum}
 use Rattle.numerics.specs.Signed.{minZ, cut, natOf, signedLetter}
 

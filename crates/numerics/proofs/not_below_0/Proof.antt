@@ -1,6 +1,6 @@
 -- `numerics::not_below_0` meets its contract.
 -- Assumes nothing.
-use mathlib.Core.Path.{_≡_, sym, _∙_}
+use mathlib.Core.Path.{_≡_, sym}
 use mathlib.Core.Bool.{true, false}
 use lib.IntN.{pos}
 use lib.Signed.{ltZ}

@@ -1,12 +1,11 @@
 -- `numerics::signed_product` meets its contract.
 -- Assumes nothing.
 use borrow.Author.Needs.{needs}
-use mir.Syntax.{w32}
-use mir.ValLaws.{toZ-ofZ}
-use native.Mathlib.Omega.{arith}
 use Prim.Native.Nat.{_<_}
+use native.Mathlib.Omega.{arith}
+use mir.Syntax.{w16, w32}
 use mir.Facts.{toZ-pos}
-use mir.Syntax.{w16}
+use mir.ValLaws.{toZ-ofZ}
 use Rattle.yuv_support.specs.Component.{step}
 use Rattle.numerics.proofs.Signed.{centred-fits, centred-read, step-fits, step-read, wider}
 use Rattle.numerics.proofs.signed_product.Statement.{statement}
