@@ -9,7 +9,7 @@ ghost use lib.Seq.{sets};
 ghost use Rattle.yuv_support.specs.Blend.{rounded};
 ghost use Rattle.yuv_support.specs.Picture.{rowOf};
 ghost use Rattle.numerics.specs.Kernel.{lettersAt, Bytes};
-ghost use Rattle.numerics.specs.Row.{rowValue, at, columnOf, acrossAt, pairChroma, stored, pairWord, Filled, Begun, BlockFits};
+ghost use Rattle.numerics.specs.Row.{rowValue, at, columnOf, acrossAt, pairChroma, tailed, stored, pairWord, Filled, Begun, BlockFits};
 use numerics::Kernel;
 use numerics::Letters;
 
@@ -73,6 +73,19 @@ pub fn blend(d: &mut [u8], sums: &mut [u16], near: &[u8], far: &[u8], n: usize)
 {
     columns(sums, near, far, n + 1);
     across(d, sums, n);
+}
+
+// Chroma at the columns of n pairs. The last is the tail, with the sample `tail`, where `near` ends with it.
+pub fn blend_tailed(d: &mut [u8], sums: &mut [u16], near: &[u8], far: &[u8], tail: u8, n: usize)
+    requires { ⌜ (2 * n ≤ length (now d)) × (n < length (now sums)) × (1 ≤ length (now near)) × (n ≤ length (now near)) × (length (now near) ≤ n + 1) × (length (now near) ≤ length (now far)) ⌝ }
+    ensures { λ _. ⌜ Begun (tailed (length (now (near .entry))) (now (near .entry)) (now (far .entry)) tail) (now (d .entry)) (now (d .exit)) (2 * n) ⌝ }
+{
+    let some = near.len() - 1;
+    blend(d, sums, near, far, some);
+    if some < n {
+        d[2 * some] = tail;
+        d[2 * some + 1] = tail;
+    }
 }
 
 // ---- letters

@@ -3,13 +3,13 @@
 // fits 16 bits, and into 32-bit lanes for any samples. Counts go into words of their own, which are added up elsewhere.
 ghost use mathlib.Core.Path.{_≡_};
 ghost use mathlib.Core.Bool.{true};
-ghost use mathlib.Core.List.{[], _∷_};
+ghost use mathlib.Core.List.{List, [], _∷_};
 ghost use Prim.Native.Nat.{ℕ, _+_, _*_, _≤_, _<_};
 ghost use lib.ListN.{length};
 ghost use lib.Seq.{sets};
 ghost use Rattle.yuv_support.specs.Picture.{rowOf};
 ghost use Rattle.numerics.specs.Kernel.{Quick, Words};
-ghost use Rattle.numerics.specs.Row.{rowValue, at, columnOf, acrossAt, pairChroma, wordAt, Small, Filled, Begun, BlockFits};
+ghost use Rattle.numerics.specs.Row.{rowValue, at, columnOf, acrossAt, pairChroma, tailed, wordAt, Small, Filled, Begun, BlockFits};
 use numerics::Kernel;
 use numerics::Letters;
 
@@ -30,13 +30,13 @@ fn beyond(samples: &[u16]) -> u16
     sum
 }
 
-// Whether all samples of five rows are below 4,096.
-pub fn is_small(y: &[u16], pn: &[u16], pf: &[u16], qn: &[u16], qf: &[u16]) -> bool
+// Whether all samples of five rows, and the tail's, are below 4,096.
+pub fn is_small(y: &[u16], pn: &[u16], pf: &[u16], qn: &[u16], qf: &[u16], tp: u16, tq: u16) -> bool
     requires { ⌜ (length (now y) ≤ 512) × (length (now pn) ≤ 512) × (length (now pf) ≤ 512) × (length (now qn) ≤ 512) × (length (now qf) ≤ 512) ⌝ }
-    ensures { λ r. ⌜ (r ≡ true → Small (length (now (y .entry))) (now (y .entry)) × Small (length (now (pn .entry))) (now (pn .entry)) × Small (length (now (pf .entry))) (now (pf .entry)) × Small (length (now (qn .entry))) (now (qn .entry)) × Small (length (now (qf .entry))) (now (qf .entry))) ⌝ }
+    ensures { λ r. ⌜ (r ≡ true → Small (length (now (y .entry))) (now (y .entry)) × Small (length (now (pn .entry))) (now (pn .entry)) × Small (length (now (pf .entry))) (now (pf .entry)) × Small (length (now (qn .entry))) (now (qn .entry)) × Small (length (now (qf .entry))) (now (qf .entry)) × (tp ≤ 4095) × (tq ≤ 4095)) ⌝ }
 {
-    let first = beyond(pn) + beyond(pf);
-    let third = beyond(qn) + beyond(qf);
+    let first = beyond(pn) + beyond(pf) + tp / 4096;
+    let third = beyond(qn) + beyond(qf) + tq / 4096;
     beyond(y) + first + third == 0
 }
 
@@ -96,6 +96,37 @@ pub fn blend_any(d: &mut [u16], near: &[u16], far: &[u16], n: usize, half: u32)
         d[2 * j + 1] = r;
         j += 1;
     }
+}
+
+// The tail's sample at the columns of the last of n pairs, where the others have theirs.
+fn put_tail(d: &mut [u16], tail: u16, some: usize, n: usize)
+    requires { ⌜ (some ≤ n) × (n ≤ some + 1) × (2 * n ≤ length (now d)) ⌝ }
+    ensures { λ _. ⌜ ((near far d₀ : List ℕ) (samples : ℕ) → some + 1 ≡ samples → Begun (pairChroma near far) d₀ (now (d .entry)) (2 * some) → Begun (tailed samples near far tail) d₀ (now (d .exit)) (2 * n)) ⌝ }
+{
+    if some < n {
+        d[2 * some] = tail;
+        d[2 * some + 1] = tail;
+    }
+}
+
+// Chroma at the columns of n pairs. The last is the tail, with the sample `tail`, where `near` ends with it.
+pub fn blend_tailed(d: &mut [u16], sums: &mut [u16], near: &[u16], far: &[u16], tail: u16, n: usize)
+    requires { ⌜ (2 * n ≤ length (now d)) × (n < length (now sums)) × (1 ≤ length (now near)) × (n ≤ length (now near)) × (length (now near) ≤ n + 1) × (length (now far) ≡ length (now near)) × Small (length (now near)) (now near) × Small (length (now far)) (now far) ⌝ }
+    ensures { λ _. ⌜ Begun (tailed (length (now (near .entry))) (now (near .entry)) (now (far .entry)) tail) (now (d .entry)) (now (d .exit)) (2 * n) ⌝ }
+{
+    let some = near.len() - 1;
+    blend(d, sums, near, far, some);
+    put_tail(d, tail, some, n);
+}
+
+// The same of any samples.
+pub fn any_tailed(d: &mut [u16], near: &[u16], far: &[u16], tail: u16, n: usize, half: u32)
+    requires { ⌜ (2 * n ≤ length (now d)) × (1 ≤ length (now near)) × (n ≤ length (now near)) × (length (now near) ≤ n + 1) × (length (now far) ≡ length (now near)) × (half ≡ 8) ⌝ }
+    ensures { λ _. ⌜ Begun (tailed (length (now (near .entry))) (now (near .entry)) (now (far .entry)) tail) (now (d .entry)) (now (d .exit)) (2 * n) ⌝ }
+{
+    let some = near.len() - 1;
+    blend_any(d, near, far, some, half);
+    put_tail(d, tail, some, n);
 }
 
 // ---- letters

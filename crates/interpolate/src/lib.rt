@@ -1,7 +1,8 @@
 // Rows of byte samples: bilinear chroma from a near and a far row, converted and stored, and what was clipped.
 // A row that has one chroma row takes it as both: the weights of two equal rows are those of one.
 // p and q are the chroma of the first and of the third letter, so one function serves RGB and BGR with three letters, RGBA and BGRA with four.
-// Pairs of pixels go through local arrays, up to 256 at a time (`blocks`); the tail, and a row of fewer than 8 pairs, pixel by pixel.
+// Pairs of pixels go through local arrays, up to 256 at a time (`blocks`); the last column of an odd width, and a row of fewer than 8 pairs
+// before its tail, pixel by pixel.
 ghost use mathlib.Core.Path.{_≡_};
 ghost use mathlib.Core.List.{List, [], _∷_};
 ghost use mathlib.Core.Logic.{_⊎_};
@@ -11,7 +12,7 @@ ghost use lib.Seq.{sets};
 ghost use Rattle.yuv_support.specs.Blend.{chromaWidth};
 ghost use Rattle.yuv_support.specs.Picture.{rowOf};
 ghost use Rattle.numerics.specs.Kernel.{Bytes, belowAt, aboveAt};
-ghost use Rattle.numerics.specs.Row.{rowValue, at, stored, pairChroma, pairsValue, wholeValue, clippedOver, pairsClipped, wholeClipped, Begun, BlockFits, PairsFit, RowFits};
+ghost use Rattle.numerics.specs.Row.{rowValue, at, stored, pairChroma, tailed, tailedValue, wholeValue, clippedOver, wholeClipped, Begun, BlockFits, GroupsFit, RowFits};
 use numerics::Kernel;
 use numerics::Letters;
 use numerics::Span;
@@ -35,6 +36,26 @@ fn blend_both(
     blocks::blend(q, sums, qn, qf, n);
 }
 
+// The same of parts of the rows; the last pair is the tail where they end with it.
+fn tailed_both(
+    p: &mut [u8],
+    q: &mut [u8],
+    sums: &mut [u16],
+    pn: &[u8],
+    pf: &[u8],
+    qn: &[u8],
+    qf: &[u8],
+    tp: u8,
+    tq: u8,
+    n: usize,
+)
+    requires { ⌜ (2 * n ≤ length (now p)) × (2 * n ≤ length (now q)) × (n < length (now sums)) × (1 ≤ length (now pn)) × (n ≤ length (now pn)) × (length (now pn) ≤ n + 1) × (length (now pf) ≡ length (now pn)) × (length (now qn) ≡ length (now pn)) × (length (now qf) ≡ length (now pn)) ⌝ }
+    ensures { λ _. ⌜ Begun (tailed (length (now (pn .entry))) (now (pn .entry)) (now (pf .entry)) tp) (now (p .entry)) (now (p .exit)) (2 * n) × Begun (tailed (length (now (qn .entry))) (now (qn .entry)) (now (qf .entry)) tq) (now (q .entry)) (now (q .exit)) (2 * n) ⌝ }
+{
+    blocks::blend_tailed(p, sums, pn, pf, tp, n);
+    blocks::blend_tailed(q, sums, qn, qf, tq, n);
+}
+
 // The pairs of a group, and what was clipped in those that were not done yet. p, q, sums and words are room to work in.
 fn group(
     row: &mut [u8],
@@ -43,30 +64,33 @@ fn group(
     pf: &[u8],
     qn: &[u8],
     qf: &[u8],
+    tp: u8,
+    tq: u8,
     p: &mut [u8],
     q: &mut [u8],
     sums: &mut [u16],
     words: &mut [u16],
     done: usize,
     span: Span,
+    samples: usize,
     letters: usize,
     k: Kernel,
 ) -> Clipped
-    requires { ⌜ Bytes k × PairsFit letters (now row) (now y) (now pn) (now pf) (now qn) (now qf) (span .from + 8 * span .eights) ⌝ }
-    requires { ⌜ (span .from ≤ done) × (done ≤ span .from + 8 * span .eights) × (span .eights ≤ 32) × (length (now p) ≡ 512) × (length (now q) ≡ 512) × (length (now sums) ≡ 257) × (length (now words) ≡ 256) ⌝ }
-    ensures { λ _. ⌜ ((row₀ : List ℕ) → Begun (pairsValue k letters (now (y .entry)) (now (pn .entry)) (now (pf .entry)) (now (qn .entry)) (now (qf .entry))) row₀ (now (row .entry)) (letters * (2 * done)) → Begun (pairsValue k letters (now (y .entry)) (now (pn .entry)) (now (pf .entry)) (now (qn .entry)) (now (qf .entry))) row₀ (now (row .exit)) (letters * (2 * (span .from + 8 * span .eights)))) ⌝ }
-    ensures { λ r. ⌜ r ≡ clippedOver k (λ c. at (now (y .entry)) (2 * done + c)) (λ c. pairChroma (now (pn .entry)) (now (pf .entry)) (2 * done + c)) (λ c. pairChroma (now (qn .entry)) (now (qf .entry)) (2 * done + c)) (2 * (span .from + 8 * span .eights - done)) ⌝ }
+    requires { ⌜ Bytes k × GroupsFit letters (now row) (now y) (now pn) (now pf) (now qn) (now qf) (span .from + 8 * span .eights) samples ⌝ }
+    requires { ⌜ (span .from ≤ done) × (done < span .from + 8 * span .eights) × (span .eights ≤ 32) × (length (now p) ≡ 512) × (length (now q) ≡ 512) × (length (now sums) ≡ 257) × (length (now words) ≡ 256) ⌝ }
+    ensures { λ _. ⌜ ((row₀ : List ℕ) → Begun (tailedValue k letters samples (now (y .entry)) (now (pn .entry)) (now (pf .entry)) (now (qn .entry)) (now (qf .entry)) tp tq) row₀ (now (row .entry)) (letters * (2 * done)) → Begun (tailedValue k letters samples (now (y .entry)) (now (pn .entry)) (now (pf .entry)) (now (qn .entry)) (now (qf .entry)) tp tq) row₀ (now (row .exit)) (letters * (2 * (span .from + 8 * span .eights)))) ⌝ }
+    ensures { λ r. ⌜ r ≡ clippedOver k (λ c. at (now (y .entry)) (2 * done + c)) (λ c. tailed samples (now (pn .entry)) (now (pf .entry)) tp (2 * done + c)) (λ c. tailed samples (now (qn .entry)) (now (qf .entry)) tq (2 * done + c)) (2 * (span .from + 8 * span .eights - done)) ⌝ }
 {
     let from = span.from;
     let n = 8 * span.eights;
     let end = from + n;
-    let to = end + 1;
+    let to = numerics::reach(end, samples);
     let first = done - from;
     let c = 2 * from;
     let e = 2 * end;
     let a = letters * c;
     let b = letters * e;
-    blend_both(
+    tailed_both(
         p,
         q,
         sums,
@@ -74,6 +98,8 @@ fn group(
         &pf[from..to],
         &qn[from..to],
         &qf[from..to],
+        tp,
+        tq,
         n,
     );
     blocks::block(
@@ -89,7 +115,7 @@ fn group(
     numerics::counted(&words[first..n])
 }
 
-// All pairs that have a chroma sample after their own; at least 8.
+// All pairs, at least 8, of rows of so many samples of chroma; the last is the tail where it has no sample after its own.
 fn groups(
     row: &mut [u8],
     y: &[u8],
@@ -97,13 +123,16 @@ fn groups(
     pf: &[u8],
     qn: &[u8],
     qf: &[u8],
+    tp: u8,
+    tq: u8,
     pairs: usize,
+    samples: usize,
     letters: usize,
     k: Kernel,
 ) -> Clipped
-    requires { ⌜ Bytes k × PairsFit letters (now row) (now y) (now pn) (now pf) (now qn) (now qf) pairs × (8 ≤ pairs) × (pairs ≤ 8192) ⌝ }
-    ensures { λ _. ⌜ Begun (pairsValue k letters (now (y .entry)) (now (pn .entry)) (now (pf .entry)) (now (qn .entry)) (now (qf .entry))) (now (row .entry)) (now (row .exit)) (letters * (2 * pairs)) ⌝ }
-    ensures { λ r. ⌜ r ≡ pairsClipped k (now (y .entry)) (now (pn .entry)) (now (pf .entry)) (now (qn .entry)) (now (qf .entry)) pairs ⌝ }
+    requires { ⌜ Bytes k × GroupsFit letters (now row) (now y) (now pn) (now pf) (now qn) (now qf) pairs samples × (8 ≤ pairs) × (pairs ≤ 8192) ⌝ }
+    ensures { λ _. ⌜ Begun (tailedValue k letters samples (now (y .entry)) (now (pn .entry)) (now (pf .entry)) (now (qn .entry)) (now (qf .entry)) tp tq) (now (row .entry)) (now (row .exit)) (letters * (2 * pairs)) ⌝ }
+    ensures { λ r. ⌜ r ≡ clippedOver k (at (now (y .entry))) (tailed samples (now (pn .entry)) (now (pf .entry)) tp) (tailed samples (now (qn .entry)) (now (qf .entry)) tq) (2 * pairs) ⌝ }
 {
     let mut words = [0u16; 256];
     let mut sums = [0u16; 257];
@@ -120,12 +149,15 @@ fn groups(
             pf,
             qn,
             qf,
+            tp,
+            tq,
             &mut p,
             &mut q,
             &mut sums,
             &mut words,
             done,
             span,
+            samples,
             letters,
             k,
         );
@@ -234,16 +266,18 @@ pub fn interpolate(
     ensures { λ _. ⌜ now (row .exit) ≡ rowOf (λ r. wholeValue k letters width (now (y .entry)) (now (pn .entry)) (now (pf .entry)) (now (qn .entry)) (now (qf .entry)) tp tq) 0 (now (row .entry)) ⌝ }
     ensures { λ r. ⌜ r ≡ wholeClipped k width (now (y .entry)) (now (pn .entry)) (now (pf .entry)) (now (qn .entry)) (now (qf .entry)) tp tq ⌝ }
 {
-    let pairs = (width + 1) / 2 - 1;
+    let samples = (width + 1) / 2;
+    let pairs = samples - 1;
     if pairs < 8 {
         return narrow(row, &y[..width], pn, pf, qn, qf, tp, tq, pairs, letters, k);
     }
-    let from = 2 * pairs;
+    let all = width / 2;
+    let from = 2 * all;
     let a = letters * from;
     let b = letters * width;
-    let p = [tp; 2];
-    let q = [tq; 2];
-    let before = groups(row, y, pn, pf, qn, qf, pairs, letters, k);
+    let p = [tp; 1];
+    let q = [tq; 1];
+    let before = groups(row, y, pn, pf, qn, qf, tp, tq, all, samples, letters, k);
     let after = singles(&mut row[a..b], &y[from..width], &p, &q, letters, k);
     numerics::both(before, after)
 }

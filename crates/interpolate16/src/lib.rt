@@ -1,7 +1,8 @@
 // Rows of u16 samples: bilinear chroma from a near and a far row, converted and stored, and what was clipped.
 // A row that has one chroma row takes it as both: the weights of two equal rows are those of one.
 // p and q are the chroma of the first and of the third letter, so one function serves RGB and BGR with three letters, RGBA and BGRA with four.
-// Pairs of pixels go through local arrays, up to 256 at a time (`blocks16`); the tail, and a row of fewer than 8 pairs, pixel by pixel.
+// Pairs of pixels go through local arrays, up to 256 at a time (`blocks16`); the last column of an odd width, and a row of fewer than 8 pairs
+// before its tail, pixel by pixel.
 ghost use mathlib.Core.Path.{_≡_};
 ghost use mathlib.Core.List.{List, []};
 ghost use mathlib.Core.Logic.{_⊎_};
@@ -11,12 +12,13 @@ ghost use lib.Seq.{sets};
 ghost use Rattle.yuv_support.specs.Blend.{chromaWidth};
 ghost use Rattle.yuv_support.specs.Picture.{rowOf};
 ghost use Rattle.numerics.specs.Kernel.{Words, belowAt, aboveAt};
-ghost use Rattle.numerics.specs.Row.{rowValue, at, stored, pairChroma, pairsValue, wholeValue, clippedOver, pairsClipped, wholeClipped, wordAt, Filled, Begun, BlockFits, PairsFit, RowFits};
+ghost use Rattle.numerics.specs.Row.{rowValue, at, stored, tailed, tailedValue, wholeValue, clippedOver, wholeClipped, wordAt, Filled, Begun, BlockFits, GroupsFit, RowFits};
 use numerics::Kernel;
 use numerics::Span;
 use yuv_support::Clipped;
 
-// Eight pairs `eights` times, by the quick loops where all samples are below 4,096, and else by those for any samples.
+// Eight pairs `eights` times, of parts of the rows, by the quick loops where all samples are below 4,096, and else by those for any samples.
+// The last pair is the tail where the parts end with it.
 fn convert(
     row: &mut [u16],
     y: &[u16],
@@ -24,6 +26,8 @@ fn convert(
     pf: &[u16],
     qn: &[u16],
     qf: &[u16],
+    tp: u16,
+    tq: u16,
     p: &mut [u16],
     q: &mut [u16],
     sums: &mut [u16],
@@ -32,20 +36,20 @@ fn convert(
     letters: usize,
     k: Kernel,
 )
-    requires { ⌜ Words k × PairsFit letters (now row) (now y) (now pn) (now pf) (now qn) (now qf) (8 * eights) × (length (now row) ≡ letters * (2 * (8 * eights))) × (length (now y) ≤ 512) × (length (now pn) ≤ 257) × (length (now pf) ≤ 257) × (length (now qn) ≤ 257) × (length (now qf) ≤ 257) ⌝ }
-    requires { ⌜ (eights ≤ 32) × (length (now p) ≡ 512) × (length (now q) ≡ 512) × (length (now sums) ≡ 257) × (length (now words) ≡ 512) ⌝ }
-    ensures { λ _. ⌜ now (row .exit) ≡ rowOf (λ r. pairsValue k letters (now (y .entry)) (now (pn .entry)) (now (pf .entry)) (now (qn .entry)) (now (qf .entry))) 0 (now (row .entry)) ⌝ }
-    ensures { λ _. ⌜ Filled (2 * (8 * eights)) (λ c. wordAt k (at (now (y .entry)) c) (pairChroma (now (pn .entry)) (now (pf .entry)) c) (pairChroma (now (qn .entry)) (now (qf .entry)) c)) (now (words .exit)) ⌝ }
+    requires { ⌜ Words k × GroupsFit letters (now row) (now y) (now pn) (now pf) (now qn) (now qf) (8 * eights) (8 * eights) × (length (now row) ≡ letters * (2 * (8 * eights))) × (length (now y) ≤ 512) × (length (now pn) ≤ 8 * eights + 1) × (length (now pf) ≡ length (now pn)) × (length (now qn) ≡ length (now pn)) × (length (now qf) ≡ length (now pn)) ⌝ }
+    requires { ⌜ (1 ≤ eights) × (eights ≤ 32) × (length (now p) ≡ 512) × (length (now q) ≡ 512) × (length (now sums) ≡ 257) × (length (now words) ≡ 512) ⌝ }
+    ensures { λ _. ⌜ now (row .exit) ≡ rowOf (λ r. rowValue k letters (at (now (y .entry))) (tailed (length (now (pn .entry))) (now (pn .entry)) (now (pf .entry)) tp) (tailed (length (now (qn .entry))) (now (qn .entry)) (now (qf .entry)) tq)) 0 (now (row .entry)) ⌝ }
+    ensures { λ _. ⌜ Filled (2 * (8 * eights)) (λ c. wordAt k (at (now (y .entry)) c) (tailed (length (now (pn .entry))) (now (pn .entry)) (now (pf .entry)) tp c) (tailed (length (now (qn .entry))) (now (qn .entry)) (now (qf .entry)) tq c)) (now (words .exit)) ⌝ }
 {
     let n = 8 * eights;
-    if blocks16::is_small(y, pn, pf, qn, qf) {
+    if blocks16::is_small(y, pn, pf, qn, qf, tp, tq) {
         let low = numerics::lower(k);
-        blocks16::blend(p, sums, pn, pf, n);
-        blocks16::blend(q, sums, qn, qf, n);
+        blocks16::blend_tailed(p, sums, pn, pf, tp, n);
+        blocks16::blend_tailed(q, sums, qn, qf, tq, n);
         blocks16::block(row, y, p, q, words, 2 * eights, letters, low);
     } else {
-        blocks16::blend_any(p, pn, pf, n, k.half);
-        blocks16::blend_any(q, qn, qf, n, k.half);
+        blocks16::any_tailed(p, pn, pf, tp, n, k.half);
+        blocks16::any_tailed(q, qn, qf, tq, n, k.half);
         blocks16::block_any(row, y, p, q, words, 2 * eights, letters, k);
     }
 }
@@ -58,33 +62,39 @@ fn group(
     pf: &[u16],
     qn: &[u16],
     qf: &[u16],
+    tp: u16,
+    tq: u16,
     p: &mut [u16],
     q: &mut [u16],
     sums: &mut [u16],
     words: &mut [u16],
     done: usize,
     span: Span,
+    samples: usize,
     letters: usize,
     k: Kernel,
 ) -> Clipped
-    requires { ⌜ Words k × PairsFit letters (now row) (now y) (now pn) (now pf) (now qn) (now qf) (span .from + 8 * span .eights) ⌝ }
-    requires { ⌜ (span .from ≤ done) × (done ≤ span .from + 8 * span .eights) × (span .eights ≤ 32) × (length (now p) ≡ 512) × (length (now q) ≡ 512) × (length (now sums) ≡ 257) × (length (now words) ≡ 512) ⌝ }
-    ensures { λ _. ⌜ ((row₀ : List ℕ) → Begun (pairsValue k letters (now (y .entry)) (now (pn .entry)) (now (pf .entry)) (now (qn .entry)) (now (qf .entry))) row₀ (now (row .entry)) (letters * (2 * done)) → Begun (pairsValue k letters (now (y .entry)) (now (pn .entry)) (now (pf .entry)) (now (qn .entry)) (now (qf .entry))) row₀ (now (row .exit)) (letters * (2 * (span .from + 8 * span .eights)))) ⌝ }
-    ensures { λ r. ⌜ r ≡ clippedOver k (λ c. at (now (y .entry)) (2 * done + c)) (λ c. pairChroma (now (pn .entry)) (now (pf .entry)) (2 * done + c)) (λ c. pairChroma (now (qn .entry)) (now (qf .entry)) (2 * done + c)) (2 * (span .from + 8 * span .eights - done)) ⌝ }
+    requires { ⌜ Words k × GroupsFit letters (now row) (now y) (now pn) (now pf) (now qn) (now qf) (span .from + 8 * span .eights) samples ⌝ }
+    requires { ⌜ (span .from ≤ done) × (done < span .from + 8 * span .eights) × (span .eights ≤ 32) × (length (now p) ≡ 512) × (length (now q) ≡ 512) × (length (now sums) ≡ 257) × (length (now words) ≡ 512) ⌝ }
+    ensures { λ _. ⌜ ((row₀ : List ℕ) → Begun (tailedValue k letters samples (now (y .entry)) (now (pn .entry)) (now (pf .entry)) (now (qn .entry)) (now (qf .entry)) tp tq) row₀ (now (row .entry)) (letters * (2 * done)) → Begun (tailedValue k letters samples (now (y .entry)) (now (pn .entry)) (now (pf .entry)) (now (qn .entry)) (now (qf .entry)) tp tq) row₀ (now (row .exit)) (letters * (2 * (span .from + 8 * span .eights)))) ⌝ }
+    ensures { λ r. ⌜ r ≡ clippedOver k (λ c. at (now (y .entry)) (2 * done + c)) (λ c. tailed samples (now (pn .entry)) (now (pf .entry)) tp (2 * done + c)) (λ c. tailed samples (now (qn .entry)) (now (qf .entry)) tq (2 * done + c)) (2 * (span .from + 8 * span .eights - done)) ⌝ }
 {
     let from = span.from;
     let eights = span.eights;
     let n = 8 * eights;
     let end = from + n;
+    let to = numerics::reach(end, samples);
     let a = letters * (2 * from);
     let b = letters * (2 * end);
     convert(
         &mut row[a..b],
         &y[2 * from..2 * end],
-        &pn[from..end + 1],
-        &pf[from..end + 1],
-        &qn[from..end + 1],
-        &qf[from..end + 1],
+        &pn[from..to],
+        &pf[from..to],
+        &qn[from..to],
+        &qf[from..to],
+        tp,
+        tq,
         p,
         q,
         sums,
@@ -96,7 +106,7 @@ fn group(
     numerics::counted(&words[2 * (done - from)..2 * n])
 }
 
-// All pairs that have a chroma sample after their own; at least 8.
+// All pairs, at least 8, of rows of so many samples of chroma; the last is the tail where it has no sample after its own.
 fn groups(
     row: &mut [u16],
     y: &[u16],
@@ -104,13 +114,16 @@ fn groups(
     pf: &[u16],
     qn: &[u16],
     qf: &[u16],
+    tp: u16,
+    tq: u16,
     pairs: usize,
+    samples: usize,
     letters: usize,
     k: Kernel,
 ) -> Clipped
-    requires { ⌜ Words k × PairsFit letters (now row) (now y) (now pn) (now pf) (now qn) (now qf) pairs × (8 ≤ pairs) × (pairs ≤ 8192) ⌝ }
-    ensures { λ _. ⌜ Begun (pairsValue k letters (now (y .entry)) (now (pn .entry)) (now (pf .entry)) (now (qn .entry)) (now (qf .entry))) (now (row .entry)) (now (row .exit)) (letters * (2 * pairs)) ⌝ }
-    ensures { λ r. ⌜ r ≡ pairsClipped k (now (y .entry)) (now (pn .entry)) (now (pf .entry)) (now (qn .entry)) (now (qf .entry)) pairs ⌝ }
+    requires { ⌜ Words k × GroupsFit letters (now row) (now y) (now pn) (now pf) (now qn) (now qf) pairs samples × (8 ≤ pairs) × (pairs ≤ 8192) ⌝ }
+    ensures { λ _. ⌜ Begun (tailedValue k letters samples (now (y .entry)) (now (pn .entry)) (now (pf .entry)) (now (qn .entry)) (now (qf .entry)) tp tq) (now (row .entry)) (now (row .exit)) (letters * (2 * pairs)) ⌝ }
+    ensures { λ r. ⌜ r ≡ clippedOver k (at (now (y .entry))) (tailed samples (now (pn .entry)) (now (pf .entry)) tp) (tailed samples (now (qn .entry)) (now (qf .entry)) tq) (2 * pairs) ⌝ }
 {
     let mut words = [0u16; 512];
     let mut sums = [0u16; 257];
@@ -127,12 +140,15 @@ fn groups(
             pf,
             qn,
             qf,
+            tp,
+            tq,
             &mut p,
             &mut q,
             &mut sums,
             &mut words,
             done,
             span,
+            samples,
             letters,
             k,
         );
@@ -229,16 +245,18 @@ pub fn interpolate(
     ensures { λ _. ⌜ now (row .exit) ≡ rowOf (λ r. wholeValue k letters width (now (y .entry)) (now (pn .entry)) (now (pf .entry)) (now (qn .entry)) (now (qf .entry)) tp tq) 0 (now (row .entry)) ⌝ }
     ensures { λ r. ⌜ r ≡ wholeClipped k width (now (y .entry)) (now (pn .entry)) (now (pf .entry)) (now (qn .entry)) (now (qf .entry)) tp tq ⌝ }
 {
-    let pairs = (width + 1) / 2 - 1;
+    let samples = (width + 1) / 2;
+    let pairs = samples - 1;
     if pairs < 8 {
         return narrow(row, &y[..width], pn, pf, qn, qf, tp, tq, pairs, letters, k);
     }
-    let from = 2 * pairs;
+    let all = width / 2;
+    let from = 2 * all;
     let a = letters * from;
     let b = letters * width;
-    let p = [tp; 2];
-    let q = [tq; 2];
-    let before = groups(row, y, pn, pf, qn, qf, pairs, letters, k);
+    let p = [tp; 1];
+    let q = [tq; 1];
+    let before = groups(row, y, pn, pf, qn, qf, tp, tq, all, samples, letters, k);
     let after = singles(&mut row[a..b], &y[from..width], &p, &q, letters, k);
     numerics::both(before, after)
 }

@@ -22,7 +22,7 @@ use Rattle.yuv_support.proofs.Counts.{total-as}
 use Rattle.yuv_support.proofs.Overlay.{overlay-length, overlay-at, is-overlay}
 use Rattle.yuv_support.proofs.Picture.{three-or-four-channels}
 use Rattle.numerics.specs.Kernel.{belowAt, aboveAt}
-use Rattle.numerics.specs.Row.{rowValue, at, pairChroma, rowChroma, wholeValue, clippedOver, wholeClipped}
+use Rattle.numerics.specs.Row.{rowValue, at, pairChroma, tailed, rowChroma, wholeValue, clippedOver, wholeClipped}
 use Rattle.kernel.specs.Kernels.{redFirst, mostOf, firstChroma, thirdChroma, kernelOf}
 use Rattle.kernel.proofs.Letters.{letter-is, below-is, above-is}
 
@@ -47,7 +47,7 @@ module _ (mode : YuvMode) (ch : Chroma) (width : ℕ) (near far : List ℕ) (N F
   pub blend-is : (column : ℕ) → column < width
       → rowChroma width near far last column
       ≡ rounded (sixteenths mode ch two (placeOf width column) (N (column / 2)) (N (column / 2 + 1)) (F (column / 2)) (F (column / 2 + 1)))
-  unfolding rowChroma placeOf sixteenths
+  unfolding tailed placeOf sixteenths
   blend-is column h = by-place (ltb (column / 2 + 1) (chromaWidth width)) refl
     where
       by-place : (b : Bool) → ltb (column / 2 + 1) (chromaWidth width) ≡ b

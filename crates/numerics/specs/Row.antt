@@ -41,9 +41,13 @@ acrossAt sums column =
 abbrev pub pairChroma : List ℕ → List ℕ → ℕ → ℕ
 pairChroma near far column = cond (eqb (column % 2) 0) (leftOf near far (column / 2)) (rightOf near far (column / 2))
 
--- chroma at a column of a row that is `width` wide: of the pairs, or the sample of the tail
-unfoldable pub rowChroma : ℕ → List ℕ → List ℕ → ℕ → ℕ → ℕ
-rowChroma width near far tail column = cond (ltb (column / 2 + 1) (chromaWidth width)) (pairChroma near far column) tail
+-- chroma at a column of rows of some number of samples: of the pairs, or the sample of the tail, which has no sample after its own
+unfoldable pub tailed : ℕ → List ℕ → List ℕ → ℕ → ℕ → ℕ
+tailed samples near far tail column = cond (ltb (column / 2 + 1) samples) (pairChroma near far column) tail
+
+-- the same of a row that is `width` wide
+abbrev pub rowChroma : ℕ → List ℕ → List ℕ → ℕ → ℕ → ℕ
+rowChroma width = tailed (chromaWidth width)
 
 -- the letters of a pixel as they are stored, three or four
 abbrev pub three : Kernel → ℕ → ℕ → ℕ → List ℕ
@@ -55,9 +59,9 @@ four k y p q = firstOf k y p ∷ greenOf k y p q ∷ thirdOf k y q ∷ k .max �
 abbrev pub stored : Kernel → ℕ → ℕ → ℕ → ℕ → List ℕ
 stored k n y p q = cond (eqb n 3) (three k y p q) (four k y p q)
 
--- element x of a row: of the pairs, and of the whole row whose tail has the chroma samples tp and tq
-abbrev pub pairsValue : Kernel → ℕ → List ℕ → List ℕ → List ℕ → List ℕ → List ℕ → ℕ → ℕ
-pairsValue k n y pn pf qn qf = rowValue k n (at y) (pairChroma pn pf) (pairChroma qn qf)
+-- element x of a row whose tail has the chroma samples tp and tq: from so many samples of chroma, and of the whole row
+abbrev pub tailedValue : Kernel → ℕ → ℕ → List ℕ → List ℕ → List ℕ → List ℕ → List ℕ → ℕ → ℕ → ℕ → ℕ
+tailedValue k n samples y pn pf qn qf tp tq = rowValue k n (at y) (tailed samples pn pf tp) (tailed samples qn qf tq)
 
 abbrev pub wholeValue : Kernel → ℕ → ℕ → List ℕ → List ℕ → List ℕ → List ℕ → List ℕ → ℕ → ℕ → ℕ → ℕ
 wholeValue k n width y pn pf qn qf tp tq = rowValue k n (at y) (rowChroma width pn pf tp) (rowChroma width qn qf tq)
@@ -71,10 +75,7 @@ clippedOver k Y P Q n = record {
   above = total (λ c. aboveAt k (Y c) (P c) (Q c)) n;
 }
 
--- of the pairs, and of the whole row
-abbrev pub pairsClipped : Kernel → List ℕ → List ℕ → List ℕ → List ℕ → List ℕ → ℕ → Clipped
-pairsClipped k y pn pf qn qf pairs = clippedOver k (at y) (pairChroma pn pf) (pairChroma qn qf) (2 * pairs)
-
+-- of the whole row
 abbrev pub wholeClipped : Kernel → ℕ → List ℕ → List ℕ → List ℕ → List ℕ → List ℕ → ℕ → ℕ → Clipped
 wholeClipped k width y pn pf qn qf tp tq = clippedOver k (at y) (rowChroma width pn pf tp) (rowChroma width qn qf tq) width
 
@@ -108,15 +109,23 @@ pub record BlockFits (n columns counts : ℕ) (row y p q words : List ℕ) : Typ
   pub third : columns ≤ length q
   pub room : counts ≤ length words
 
--- the samples and the places of `pairs` pairs are there
-pub record PairsFit (n : ℕ) (row y pn pf qn qf : List ℕ) (pairs : ℕ) : Type 0 where
+-- the places and the luma of `pairs` pairs are there, and `samples` samples of chroma, at least one to the pair
+pub record GroupsFit (n : ℕ) (row y pn pf qn qf : List ℕ) (pairs samples : ℕ) : Type 0 where
   pub letters : (n ≡ 3) ⊎ (n ≡ 4)
   pub places : n * (2 * pairs) ≤ length row
   pub luma : 2 * pairs ≤ length y
-  pub first-near : pairs < length pn
-  pub first-far : pairs < length pf
-  pub third-near : pairs < length qn
-  pub third-far : pairs < length qf
+  pub known : pairs ≤ samples
+  pub first-near : samples ≤ length pn
+  pub first-far : samples ≤ length pf
+  pub third-near : samples ≤ length qn
+  pub third-far : samples ≤ length qf
+
+-- where the samples of the pairs up to `end` end: with the sample after their own, or with the row
+pub record Reach (end samples to : ℕ) : Type 0 where
+  pub least : end ≤ to
+  pub most : to ≤ end + 1
+  pub inside : to ≤ samples
+  pub last : (to ≡ end + 1) ⊎ (to ≡ samples)
 
 -- the samples and the places of a row are there
 pub record RowFits (n : ℕ) (row y pn pf qn qf : List ℕ) (width : ℕ) : Type 0 where

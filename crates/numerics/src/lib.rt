@@ -14,7 +14,7 @@ ghost use Rattle.yuv_support.specs.Component.{step};
 ghost use Rattle.yuv_support.specs.Counts.{together, total};
 ghost use Rattle.numerics.specs.Kernel.{letterOfSum, OneAtMost, lettersOf, lettersAt, middle, level, Quick, Words, lowered};
 ghost use Rattle.numerics.specs.Signed.{minZ, cut, natOf, signedLetter};
-ghost use Rattle.numerics.specs.Row.{at};
+ghost use Rattle.numerics.specs.Row.{at, Reach};
 use yuv_support::Clipped;
 use yuv_support::YuvMode;
 
@@ -371,4 +371,12 @@ pub fn next_span(done: usize, pairs: usize) -> Span
         from: done + n - 8 * eights,
         eights,
     }
+}
+
+// Where the samples of the pairs before pair `end` end.
+pub fn reach(end: usize, samples: usize) -> usize
+    requires { ⌜ end ≤ samples ⌝ }
+    ensures { λ r. ⌜ Reach end samples r ⌝ }
+{
+    if end < samples { end + 1 } else { end }
 }

@@ -7,16 +7,16 @@ use native.Mathlib.Nat.{mul-le-mul-left}
 use native.Mathlib.Omega.{arith}
 use lib.ListN.{take}
 use lib.Seq.{getD-take, length-take-le}
-use Rattle.numerics.specs.Row.{at, pairChroma}
+use Rattle.numerics.specs.Row.{at, rowChroma}
 use Rattle.numerics.proofs.Row.{begun-length}
-use Rattle.numerics.proofs.Tails.{pairsOf, pairs-most, pairs-fit, same-row, same-counts, tail-length, tail-fits, whole-row, whole-counts}
+use Rattle.numerics.proofs.Tails.{allOf, pairs-most, pairs-least, groups-fit, same-row, same-counts, last-length, last-fits, whole-row, whole-counts}
 use Rattle.numerics.proofs.Choice.{few-letters}
 use Rattle.numerics.proofs.Clips.{most-of}
 use Rattle.interpolate.proofs.interpolate.Statement.{statement}
 use Rattle.interpolate.proofs.interpolate.Tie as tie
 
-add-pairs : tie.Need-add-pairs
-add-pairs c = search needs
+add-samples : tie.Need-add-samples
+add-samples c = search needs
 
 sub-pairs : tie.Need-sub-pairs
 sub-pairs c = search needs
@@ -60,7 +60,7 @@ mul-a c =
     let s = c .before .before .before .before .before .before .before in
     let a = s .args in
     let f = s .pre .1 in
-    omega (arith, few-letters (2 * pairsOf (a .width)) (f .letters), pairs-most (a .width) (f .some), f .wide)
+    omega (arith, few-letters (2 * allOf (a .width)) (f .letters), pairs-most (a .width), f .wide)
 
 mul-b : tie.Need-mul-b
 mul-b c = search needs
@@ -70,21 +70,21 @@ groups-requires c κs =
     let s = c .before .before .before .before .before .before .before .before in
     let a = s .args in
     let f = s .pre .1 in
-    (s .pre .0, pairs-fit f, c .before .if1 .left, omega (arith, pairs-most (a .width) (f .some), f .wide))
+    (s .pre .0, groups-fit f, pairs-least (a .width) (c .before .if1 .left), omega (arith, pairs-most (a .width), f .wide))
 
 sub-singles : tie.Need-sub-singles
 sub-singles c =
     let s = c .before .before .before .before .before .before .before .before .before .before .before in
     let a = s .args in
     let f = s .pre .1 in
-    mul-le-mul-left (a .letters) (pairs-most (a .width) (f .some))
+    mul-le-mul-left (a .letters) (pairs-most (a .width))
 
 part-singles-start : tie.Need-part-singles-start
 part-singles-start c =
     let s = c .before .before .before .before .before .before .before .before .before .before .before in
     let a = s .args in
     let f = s .pre .1 in
-    mul-le-mul-left (a .letters) (pairs-most (a .width) (f .some))
+    mul-le-mul-left (a .letters) (pairs-most (a .width))
 
 part-singles-end : tie.Need-part-singles-end
 part-singles-end c = search needs
@@ -109,17 +109,17 @@ singles-requires c κs =
     let s = c .before .before .before .before .before .before .before .before .before .before .before .before .before .before .before in
     let a = s .args in
     let f = s .pre .1 in
-    (s .pre .0, tail-fits (a .k) (a .letters) (f .letters) (a .width) (a .y .now) (a .pn .now) (a .pf .now) (a .qn .now) (a .qf .now) (a .tp) (a .tq) (f .some) _ (begun-length (c .before .before .before .before .before .before .groups .ensures .0) ∙ f .places) (f .luma), omega (arith, tail-length (a .k) (a .letters) (f .letters) (a .width) (a .y .now) (a .pn .now) (a .pf .now) (a .qn .now) (a .qf .now) (a .tp) (a .tq) (f .some) (f .luma), f .wide))
+    (s .pre .0, last-fits (a .k) (a .letters) (f .letters) (a .width) (a .y .now) (a .pn .now) (a .pf .now) (a .qn .now) (a .qf .now) (a .tp) (a .tq) _ (begun-length (c .before .before .before .before .before .before .groups .ensures .0) ∙ f .places) (f .luma), omega (arith, last-length (a .k) (a .letters) (f .letters) (a .width) (a .y .now) (a .pn .now) (a .pf .now) (a .qn .now) (a .qf .now) (a .tp) (a .tq) (f .luma), f .wide))
 
 both-requires : tie.Need-both-requires
 both-requires c κs =
     let s = c .before .before .before .before .before .before .before .before .before .before .before .before .before .before .before .before .before .before in
     let a = s .args in
     let f = s .pre .1 in
-    let b = most-of (a .k) (at (a .y .now)) (pairChroma (a .pn .now) (a .pf .now)) (pairChroma (a .qn .now) (a .qf .now)) (2 * pairsOf (a .width)) (c .before .before .before .before .before .before .before .before .before .groups .ensures .1) in
+    let b = most-of (a .k) (at (a .y .now)) (rowChroma (a .width) (a .pn .now) (a .pf .now) (a .tp)) (rowChroma (a .width) (a .qn .now) (a .qf .now) (a .tq)) (2 * allOf (a .width)) (c .before .before .before .before .before .before .before .before .before .groups .ensures .1) in
     let x = most-of (a .k) _ _ _ _ (c .before .before .singles .ensures .1) in
-    let t = tail-length (a .k) (a .letters) (f .letters) (a .width) (a .y .now) (a .pn .now) (a .pf .now) (a .qn .now) (a .qf .now) (a .tp) (a .tq) (f .some) (f .luma) in
-    let m = pairs-most (a .width) (f .some) in
+    let t = last-length (a .k) (a .letters) (f .letters) (a .width) (a .y .now) (a .pn .now) (a .pf .now) (a .qn .now) (a .qf .now) (a .tp) (a .tq) (f .luma) in
+    let m = pairs-most (a .width) in
     (omega (arith, f .wide, b .0, x .0, t, m), omega (arith, f .wide, b .1, x .1, t, m))
 
 same-length-2 : tie.Need-same-length-2
@@ -132,15 +132,15 @@ returns-2 c =
     let f = s .pre .1 in
     let g = c .before .before .before .before .before .before .before .before .before .before .groups .ensures in
     let x = c .before .before .before .singles .ensures in (
-      whole-row (a .k) (a .letters) (f .letters) (a .width) (a .y .now) (a .pn .now) (a .pf .now) (a .qn .now) (a .qf .now) (a .tp) (a .tq) (f .some) (g .0) (f .places) (x .0),
-      c .both .ensures ∙ rw (g .1, x .1, tail-length (a .k) (a .letters) (f .letters) (a .width) (a .y .now) (a .pn .now) (a .pf .now) (a .qn .now) (a .qf .now) (a .tp) (a .tq) (f .some) (f .luma)) (whole-counts (a .k) (a .letters) (f .letters) (a .width) (a .y .now) (a .pn .now) (a .pf .now) (a .qn .now) (a .qf .now) (a .tp) (a .tq) (f .some)),
+      whole-row (a .k) (a .letters) (f .letters) (a .width) (a .y .now) (a .pn .now) (a .pf .now) (a .qn .now) (a .qf .now) (a .tp) (a .tq) (g .0) (f .places) (x .0),
+      c .both .ensures ∙ rw (g .1, x .1, last-length (a .k) (a .letters) (f .letters) (a .width) (a .y .now) (a .pn .now) (a .pf .now) (a .qn .now) (a .qf .now) (a .tp) (a .tq) (f .luma)) (whole-counts (a .k) (a .letters) (f .letters) (a .width) (a .y .now) (a .pn .now) (a .pf .now) (a .qn .now) (a .qf .now) (a .tp) (a .tq)),
     )
 
 pub interpolate-spec : {M : Type 1} → statement M
 interpolate-spec =
     tie.close
     (tie.spec
-    add-pairs
+    add-samples
     sub-pairs
     slice-aggregate-narrow
     narrow-requires
