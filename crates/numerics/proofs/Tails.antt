@@ -1,4 +1,4 @@
--- The last column of an odd width, after the pairs, and so the whole row.
+-- The columns that are left after the pairs of the groups, at most two, and so the whole row.
 -- Assumes nothing.
 use mathlib.Core.Path.{_≡_, refl, ap, _∙_}
 use mathlib.Core.Logic.{_⊎_, inl, inr}
@@ -20,12 +20,9 @@ use Rattle.numerics.proofs.Clips.{clipped-as, clipped-on}
 use Rattle.numerics.proofs.Choice.{some-letters}
 use Rattle.numerics.proofs.Parts.{cut}
 
--- the pairs of a row that have a chroma sample after their own, and all pairs
+-- the pairs of a row that have a chroma sample after their own
 abbrev pub pairsOf : ℕ → ℕ
 pairsOf width = chromaWidth width - 1
-
-abbrev pub allOf : ℕ → ℕ
-allOf width = width / 2
 
 module _ (width : ℕ) (near far : List ℕ) (tail c : ℕ) where
   pub chroma-pair : c < 2 * pairsOf width → rowChroma width near far tail c ≡ pairChroma near far c
@@ -37,9 +34,9 @@ module _ (width : ℕ) (near far : List ℕ) (tail c : ℕ) where
   chroma-tail h = rw (le-ltb (c / 2 + 1) (chromaWidth width) (omega arith))
 
 -- the pairs of a row are there
-pub groups-fit : {n width : ℕ} {row y pn pf qn qf : List ℕ} → RowFits n row y pn pf qn qf width → GroupsFit n row y pn pf qn qf (allOf width) (chromaWidth width)
-groups-fit {n} {width} f =
-    let p : n * (2 * allOf width) ≤ n * width = mul-le-mul-left n (omega arith) in
+pub groups-fit : {n width all : ℕ} {row y pn pf qn qf : List ℕ} → RowFits n row y pn pf qn qf width → 2 * all ≤ width → GroupsFit n row y pn pf qn qf all (chromaWidth width)
+groups-fit {n} {width} {all} f h =
+    let p : n * (2 * all) ≤ n * width = mul-le-mul-left n h in
     record {
       letters = f .letters;
       places = omega (arith, f .places);
@@ -50,12 +47,6 @@ groups-fit {n} {width} f =
       third-near = f .third-near;
       third-far = f .third-far;
     }
-
-pub pairs-most : (width : ℕ) → 2 * allOf width ≤ width
-pairs-most width = omega arith
-
-pub pairs-least : (width : ℕ) → 8 ≤ pairsOf width → 8 ≤ allOf width
-pairs-least width h = omega arith
 
 pub narrow-most : (width pairs : ℕ) → pairs ≡ pairsOf width → pairs < 8 → width ≤ 16
 narrow-most width pairs e h = omega arith
@@ -72,8 +63,8 @@ narrow-chroma width near far tail {xs₀} {xs} b t l w c h = by-place (below-or-
 pub sixteen-at : (v c : ℕ) → c < 16 → at (v ∷ v ∷ v ∷ v ∷ v ∷ v ∷ v ∷ v ∷ v ∷ v ∷ v ∷ v ∷ v ∷ v ∷ v ∷ v ∷ []) c ≡ v
 sixteen-at v c h = value-at (λ j. v) (v ∷ v ∷ v ∷ v ∷ v ∷ v ∷ v ∷ v ∷ v ∷ v ∷ v ∷ v ∷ v ∷ v ∷ v ∷ v ∷ []) (refl, (refl, (refl, (refl, (refl, (refl, (refl, (refl, (refl, (refl, (refl, (refl, (refl, (refl, (refl, (refl, tt)))))))))))))))) c h
 
-one-at : (v c : ℕ) → c < 1 → at (v ∷ []) c ≡ v
-one-at v c h = value-at (λ j. v) (v ∷ []) (refl, tt) c h
+two-at : (v c : ℕ) → c < 2 → at (v ∷ v ∷ []) c ≡ v
+two-at v c h = value-at (λ j. v) (v ∷ v ∷ []) (refl, (refl, tt)) c h
 
 module _ (k : Kernel) (n : ℕ) (l : (n ≡ 3) ⊎ (n ≡ 4)) (width : ℕ) (y pn pf qn qf : List ℕ) (tp tq : ℕ) where
   abbrev Whole : ℕ → ℕ
@@ -93,55 +84,56 @@ module _ (k : Kernel) (n : ℕ) (l : (n ≡ 3) ⊎ (n ≡ 4)) (width : ℕ) (y p
     pub same-counts : clippedOver k (at y′) P′ Q′ width ≡ wholeClipped k width y pn pf qn qf tp tq
     same-counts = clipped-as k (at y) P Q (at y′) P′ Q′ width ey ep eq
 
-  -- the pairs and then the last column
-  last-most : width - 2 * allOf width ≤ 1
-  last-most = omega arith
+  -- the pairs and then the columns that are left, where the pairs hold all that have a sample after their own
+  module _ (all : ℕ) (lo : pairsOf width ≤ all) (hi : 2 * all ≤ width) where
+    last-most : width - 2 * all ≤ 2
+    last-most = omega arith
 
-  abbrev last-luma : List ℕ
-  last-luma = cut (2 * allOf width) width y
+    abbrev last-luma : List ℕ
+    last-luma = cut (2 * all) width y
 
-  pub last-length : width ≤ length y → length last-luma ≡ width - 2 * allOf width
-  last-length h = part-long (2 * allOf width) width y h
+    pub last-length : width ≤ length y → length last-luma ≡ width - 2 * all
+    last-length h = part-long (2 * all) width y h
 
-  -- what the last column asks of the parts
-  pub last-fits : (row : List ℕ) → length row ≡ n * width → width ≤ length y
-      → BlockFits n (length last-luma) 0 (cut (n * (2 * allOf width)) (n * width) row) last-luma (tp ∷ []) (tq ∷ []) []
-  last-fits row long h =
-      let t = last-length h in
-      record {
-        letters = l;
-        places = part-long (n * (2 * allOf width)) (n * width) row (omega arith) ∙ apart (2 * allOf width) (width - 2 * allOf width) (omega arith) ∙ rw t;
-        luma = omega arith;
-        first = omega (arith, last-most);
-        third = omega (arith, last-most);
-        room = omega arith;
-      }
-    where
-      apart : (a d : ℕ) → a + d ≡ width → n * width - n * a ≡ n * d
-      apart a d e = rw (← e) (omega arith)
+    -- what they ask of the parts
+    pub last-fits : (row : List ℕ) → length row ≡ n * width → width ≤ length y
+        → BlockFits n (length last-luma) 0 (cut (n * (2 * all)) (n * width) row) last-luma (tp ∷ tp ∷ []) (tq ∷ tq ∷ []) []
+    last-fits row long h =
+        let t = last-length h in
+        record {
+          letters = l;
+          places = part-long (n * (2 * all)) (n * width) row (omega arith) ∙ apart (2 * all) (width - 2 * all) (omega arith) ∙ rw t;
+          luma = omega arith;
+          first = omega (arith, last-most);
+          third = omega (arith, last-most);
+          room = omega arith;
+        }
+      where
+        apart : (a d : ℕ) → a + d ≡ width → n * width - n * a ≡ n * d
+        apart a d e = rw (← e) (omega arith)
 
-  luma-last : (c : ℕ) → c < width - 2 * allOf width → at last-luma c ≡ at y (2 * allOf width + c)
-  luma-last c h = part-at (2 * allOf width) width y c h
+    luma-last : (c : ℕ) → c < width - 2 * all → at last-luma c ≡ at y (2 * all + c)
+    luma-last c h = part-at (2 * all) width y c h
 
-  sample-last : (near far : List ℕ) (tail c : ℕ) → c < width - 2 * allOf width → at (tail ∷ []) c ≡ rowChroma width near far tail (2 * allOf width + c)
-  sample-last near far tail c h = one-at tail c (omega (arith, last-most)) ∙ rw (chroma-tail width near far tail (2 * allOf width + c) (omega arith))
+    sample-last : (near far : List ℕ) (tail c : ℕ) → c < width - 2 * all → at (tail ∷ tail ∷ []) c ≡ rowChroma width near far tail (2 * all + c)
+    sample-last near far tail c h = two-at tail c (omega (arith, last-most)) ∙ rw (chroma-tail width near far tail (2 * all + c) (omega arith))
 
-  pub whole-row : {row₀ row ys : List ℕ} → Begun Whole row₀ row (n * (2 * allOf width)) → length row₀ ≡ n * width
-      → ys ≡ rowOf (λ r. rowValue k n (at last-luma) (at (tp ∷ [])) (at (tq ∷ []))) 0 (cut (n * (2 * allOf width)) (n * width) row)
-      → putMid (n * (2 * allOf width)) (n * width - n * (2 * allOf width)) row ys ≡ rowOf (λ r. Whole) 0 row₀
-  whole-row b long e =
-      begun-whole
-      (begun-part (rowValue k n (at last-luma) (at (tp ∷ [])) (at (tq ∷ []))) (n * (2 * allOf width)) (n * width) b
-      (omega arith) (mul-le-mul-left n (omega arith)) (omega arith) e
-      (λ x h. value-shifted k n (some-letters l) (at y) P Q _ _ _ (2 * allOf width) (width - 2 * allOf width) luma-last (sample-last pn pf tp) (sample-last qn qf tq) x (inside (2 * allOf width) (width - 2 * allOf width) x (omega arith) h)))
-      (omega arith)
-    where
-      inside : (a d x : ℕ) → a + d ≡ width → x < n * width - n * a → x < n * d
-      inside a d x e h = let h′ : x < n * (a + d) - n * a = rw e h in omega arith
+    pub whole-row : {row₀ row ys : List ℕ} → Begun Whole row₀ row (n * (2 * all)) → length row₀ ≡ n * width
+        → ys ≡ rowOf (λ r. rowValue k n (at last-luma) (at (tp ∷ tp ∷ [])) (at (tq ∷ tq ∷ []))) 0 (cut (n * (2 * all)) (n * width) row)
+        → putMid (n * (2 * all)) (n * width - n * (2 * all)) row ys ≡ rowOf (λ r. Whole) 0 row₀
+    whole-row b long e =
+        begun-whole
+        (begun-part (rowValue k n (at last-luma) (at (tp ∷ tp ∷ [])) (at (tq ∷ tq ∷ []))) (n * (2 * all)) (n * width) b
+        (omega arith) (mul-le-mul-left n (omega arith)) (omega arith) e
+        (λ x h. value-shifted k n (some-letters l) (at y) P Q _ _ _ (2 * all) (width - 2 * all) luma-last (sample-last pn pf tp) (sample-last qn qf tq) x (inside (2 * all) (width - 2 * all) x (omega arith) h)))
+        (omega arith)
+      where
+        inside : (a d x : ℕ) → a + d ≡ width → x < n * width - n * a → x < n * d
+        inside a d x e h = let h′ : x < n * (a + d) - n * a = rw e h in omega arith
 
-  pub whole-counts : together (clippedOver k (at y) P Q (2 * allOf width)) (clippedOver k (at last-luma) (at (tp ∷ [])) (at (tq ∷ [])) (width - 2 * allOf width))
-      ≡ wholeClipped k width y pn pf qn qf tp tq
-  whole-counts =
-      let e : 2 * allOf width + (width - 2 * allOf width) ≡ width = omega arith in
-      clipped-on k (at y) P Q (at last-luma) (at (tp ∷ [])) (at (tq ∷ [])) (2 * allOf width) (width - 2 * allOf width) luma-last (sample-last pn pf tp) (sample-last qn qf tq)
-      ∙ ap (clippedOver k (at y) P Q) e
+    pub whole-counts : together (clippedOver k (at y) P Q (2 * all)) (clippedOver k (at last-luma) (at (tp ∷ tp ∷ [])) (at (tq ∷ tq ∷ [])) (width - 2 * all))
+        ≡ wholeClipped k width y pn pf qn qf tp tq
+    whole-counts =
+        let e : 2 * all + (width - 2 * all) ≡ width = omega arith in
+        clipped-on k (at y) P Q (at last-luma) (at (tp ∷ tp ∷ [])) (at (tq ∷ tq ∷ [])) (2 * all) (width - 2 * all) luma-last (sample-last pn pf tp) (sample-last qn qf tq)
+        ∙ ap (clippedOver k (at y) P Q) e

@@ -9,7 +9,7 @@ ghost use mathlib.Core.Bool.{cond};
 ghost use lib.IntN.{pos, _+ℤ_, _-ℤ_};
 ghost use lib.Signed.{ltZ};
 ghost use lib.ListN.{length};
-ghost use Rattle.yuv_support.specs.Blend.{Cr, rounded, tailOf};
+ghost use Rattle.yuv_support.specs.Blend.{Cr, chromaWidth, rounded, tailOf};
 ghost use Rattle.yuv_support.specs.Component.{step};
 ghost use Rattle.yuv_support.specs.Counts.{together, total};
 ghost use Rattle.numerics.specs.Kernel.{letterOfSum, OneAtMost, lettersOf, lettersAt, middle, level, Quick, Words, lowered};
@@ -371,6 +371,17 @@ pub fn next_span(done: usize, pairs: usize) -> Span
         from: done + n - 8 * eights,
         eights,
     }
+}
+
+// How many pairs of a row go through its groups: all, but for the tail of an even width where it would need a group to itself.
+pub fn grouped(width: usize) -> usize
+    requires { ⌜ (1 ≤ width) × (width ≤ 16384) ⌝ }
+    ensures { λ r. ⌜ (chromaWidth width - 1 ≤ r) × (2 * r ≤ width) ⌝ }
+{
+    if width % 16 == 2 {
+        return width / 2 - 1;
+    }
+    width / 2
 }
 
 // Where the samples of the pairs before pair `end` end.
