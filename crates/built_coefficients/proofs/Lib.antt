@@ -1,4 +1,3 @@
-pub mod Table
-pub mod Rule
-pub mod Lookup
+pub mod Fits
+pub mod Stored
 pub mod Nearest

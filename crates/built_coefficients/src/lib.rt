@@ -1,96 +1,125 @@
-// The stored inverse rows for precision 13, in one table: 22 rows of five coefficients, as the source has them, and two of matched mode.
+// The coefficients of the settings that the source stores rows for, precision 13, by formula: M/RY, 2(1−k)·M/RC and 2(1−k)(k/kg)·M/RC, times
+// 8192, each rounded to the nearest whole number. The weights kr, kb and kg = 1 − kr − kb are in ten-thousandths.
 use yuv_support::CbCrInverseTransform;
 use yuv_support::YuvMode;
 use yuv_support::YuvRange;
 use yuv_support::YuvStandardMatrix;
 ghost use mathlib.Core.Path.{_≡_};
-ghost use Prim.Native.Nat.{_<_};
-ghost use Rattle.built_coefficients.specs.Built.{builtOf, NearestRow, rowAt, matrixNumber, rangeNumber, smpte240Rows};
+ghost use Prim.Native.Nat.{_+_, _-_, _*_, _≤_, _<_};
+ghost use lib.Dec.{T};
+ghost use Rattle.yuv_support.specs.Settings.{among, depths, weightR, weightB};
+ghost use Rattle.yuv_support.specs.Coefficients.{isStored, nearest, ruleOf};
+ghost use Rattle.built_coefficients.specs.Built.{builtOf, NearestRow, StoredBy, AtMostTwo};
 
-// y, cr, cb, g1, g2 of each row. The source's rows go by depth (8, 10, 12), then matrix, then range (limited, full); those of `Smpte240` at
-// depth 8 in matched mode come last.
-const ROWS: [[u32; 5]; 24] = [
-    [9539, 13075, 16525, 6660, 3209],
-    [8192, 11485, 14516, 5850, 2819],
-    [9539, 14686, 17305, 4366, 1747],
-    [8192, 12901, 15201, 3835, 1535],
-    [9539, 13752, 17545, 5328, 1535],
-    [8192, 12080, 15412, 4681, 1348],
-    [9539, 17029, 14697, 2113, 4445],
-    [8192, 14959, 12911, 1856, 3904],
-    [9539, 14511, 17322, 4558, 1748],
-    [8192, 12747, 15216, 4004, 1535],
-    [9567, 13113, 16574, 6679, 3219],
-    [8192, 11485, 14516, 5850, 2819],
-    [9567, 14729, 17356, 4378, 1752],
-    [8192, 12901, 15201, 3835, 1535],
-    [9567, 13792, 17597, 5344, 1539],
-    [8192, 12080, 15412, 4681, 1348],
-    [9574, 13123, 16586, 6684, 3221],
-    [8192, 11485, 14516, 5850, 2819],
-    [9574, 14740, 17368, 4382, 1753],
-    [8192, 12901, 15201, 3835, 1535],
-    [9574, 13802, 17610, 5348, 1540],
-    [8192, 12080, 15412, 4681, 1348],
-    [9539, 14697, 17029, 4445, 2113],
-    [8192, 12911, 14959, 3904, 1856],
-];
-
-// The stored row of a setting, or that it has none.
+// The row of a setting that the source stores one for, or that it stores none.
 pub enum BuiltTransform {
     Row(CbCrInverseTransform),
     NoRow,
 }
 
-fn matrix_number(matrix: YuvStandardMatrix) -> usize
-    ensures { λ r. ⌜ r ≡ matrixNumber matrix ⌝ }
+// kr and kb, in ten-thousandths.
+struct Weights {
+    kr: u64,
+    kb: u64,
+}
+
+// 8192·num/den to the nearest whole number, halves up. The largest den is that of green, 10,000·10,000·65,535, and num is at most four times
+// as large: in 64 bits nothing overflows, and the result is at most 32,768.
+fn to_nearest(num: u64, den: u64) -> u32
+    requires { ⌜ (0 < den) × (den ≤ 6553500000000) × (num ≤ 4 * den) ⌝ }
+    ensures { λ r. ⌜ r ≡ nearest (8192 * num) den ⌝ }
+{
+    ((2 * (8192 * num) + den) / (2 * den)) as u32
+}
+
+// M/RY.
+fn luma(max: u16, range_y: u16) -> u32
+    requires { ⌜ AtMostTwo max «range_y» ⌝ }
+    ensures { λ r. ⌜ r ≡ nearest (8192 * max) «range_y» ⌝ }
+{
+    to_nearest(max as u64, range_y as u64)
+}
+
+// 2(1−k)·M/RC: red by kr, blue by kb.
+fn outer(k: u64, max: u16, range_uv: u16) -> u32
+    requires { ⌜ (k ≤ 10000) × AtMostTwo max «range_uv» ⌝ }
+    ensures { λ r. ⌜ r ≡ nearest (8192 * (2 * (10000 - k) * max)) (10000 * «range_uv») ⌝ }
+{
+    to_nearest(2 * (10000 - k) * max as u64, 10000 * range_uv as u64)
+}
+
+// 2(1−k)(k/kg)·M/RC: green, what it loses by Cr with kr and by Cb with kb.
+fn inner(k: u64, kg: u64, max: u16, range_uv: u16) -> u32
+    requires { ⌜ (k ≤ kg) × (0 < kg) × (kg ≤ 10000) × AtMostTwo max «range_uv» ⌝ }
+    ensures { λ r. ⌜ r ≡ nearest (8192 * (2 * (10000 - k) * k * max)) (10000 * kg * «range_uv») ⌝ }
+{
+    to_nearest(2 * (10000 - k) * k * max as u64, 10000 * kg * range_uv as u64)
+}
+
+// The five coefficients by the weights.
+fn rule(depth: u32, range: YuvRange, k: Weights) -> CbCrInverseTransform
+    requires { ⌜ T (among depth depths) × (k .kr + k .kb ≤ 5000) ⌝ }
+    ensures { λ r. ⌜ r ≡ ruleOf depth range (k .kr) (k .kb) (10000 - k .kr - k .kb) ⌝ }
+{
+    let max = yuv_support::max_of(depth);
+    let chroma = yuv_support::get_yuv_range(depth, range);
+    let kr = k.kr;
+    let kb = k.kb;
+    let kg = 10000 - kr - kb;
+    CbCrInverseTransform {
+        y: luma(max, chroma.range_y),
+        cr: outer(kr, max, chroma.range_uv),
+        cb: outer(kb, max, chroma.range_uv),
+        g1: inner(kr, kg, max, chroma.range_uv),
+        g2: inner(kb, kg, max, chroma.range_uv),
+    }
+}
+
+// The weights of a matrix. Custom, which has no stored row, carries its own elsewhere.
+fn own_weights(matrix: YuvStandardMatrix) -> Weights
+    ensures { λ r. ⌜ r ≡ record { kr = weightR matrix; kb = weightB matrix } ⌝ }
 {
     match matrix {
-        YuvStandardMatrix::Bt601 => 0,
-        YuvStandardMatrix::Bt709 => 1,
-        YuvStandardMatrix::Bt2020 => 2,
-        YuvStandardMatrix::Smpte240 => 3,
-        YuvStandardMatrix::Bt470_6 => 4,
-        YuvStandardMatrix::Fcc => 5,
-        YuvStandardMatrix::Custom(_, _) => 6,
+        YuvStandardMatrix::Bt601 => Weights { kr: 2990, kb: 1140 },
+        YuvStandardMatrix::Bt709 => Weights { kr: 2126, kb: 722 },
+        YuvStandardMatrix::Bt2020 => Weights { kr: 2627, kb: 593 },
+        YuvStandardMatrix::Smpte240 => Weights { kr: 2120, kb: 870 },
+        YuvStandardMatrix::Bt470_6 => Weights { kr: 2220, kb: 713 },
+        YuvStandardMatrix::Fcc => Weights { kr: 3000, kb: 1100 },
+        YuvStandardMatrix::Custom(_, _) => Weights { kr: 0, kb: 0 },
     }
 }
 
-fn range_number(range: YuvRange) -> usize
-    ensures { λ r. ⌜ r ≡ rangeNumber range ⌝ }
+// The weights by which the source stores a matrix: those of `Smpte240` are exchanged. Matched, they are the matrix's own.
+fn stored_weights(matrix: YuvStandardMatrix, mode: YuvMode) -> Weights
+    ensures { λ r. ⌜ StoredBy matrix mode r ⌝ }
 {
-    match range {
-        YuvRange::Limited => 0,
-        YuvRange::Full => 1,
+    let k = own_weights(matrix);
+    match matrix {
+        YuvStandardMatrix::Smpte240 => match mode {
+            YuvMode::AsSource => Weights { kr: k.kb, kb: k.kr },
+            YuvMode::Matched => k,
+        },
+        _ => k,
     }
 }
 
-// Where the two rows of `Smpte240` begin.
-fn smpte240_rows(mode: YuvMode) -> usize
-    ensures { λ r. ⌜ r ≡ smpte240Rows mode ⌝ }
+// Whether the source stores a row: five matrices at depth 8, three at depths 10 and 12.
+fn is_stored(depth: u32, matrix: YuvStandardMatrix) -> bool
+    ensures { λ r. ⌜ r ≡ isStored depth matrix ⌝ }
 {
-    match mode {
-        YuvMode::AsSource => 6,
-        YuvMode::Matched => 22,
+    match matrix {
+        YuvStandardMatrix::Bt601 => yuv_support::is_depth(depth),
+        YuvStandardMatrix::Bt709 => yuv_support::is_depth(depth),
+        YuvStandardMatrix::Bt2020 => yuv_support::is_depth(depth),
+        YuvStandardMatrix::Smpte240 => depth == 8,
+        YuvStandardMatrix::Bt470_6 => depth == 8,
+        YuvStandardMatrix::Fcc => false,
+        YuvStandardMatrix::Custom(_, _) => false,
     }
 }
 
-// Row k of the table.
-fn row(k: usize) -> CbCrInverseTransform
-    requires { ⌜ k < 24 ⌝ }
-    ensures { λ r. ⌜ r ≡ rowAt k ⌝ }
-{
-    let row = ROWS[k];
-    CbCrInverseTransform {
-        y: row[0],
-        cr: row[1],
-        cb: row[2],
-        g1: row[3],
-        g2: row[4],
-    }
-}
-
-// The stored row of a depth, a range, a matrix and a mode. Depth 8 has five matrices, depths 10 and 12 have three.
+// The row of a depth, a range, a matrix and a mode.
 pub fn get_built_inverse_transform(
     depth: u32,
     range: YuvRange,
@@ -100,25 +129,9 @@ pub fn get_built_inverse_transform(
     ensures { λ r. ⌜ r ≡ builtOf depth range matrix mode ⌝ }
     ensures { λ r. ⌜ NearestRow depth range matrix mode r ⌝ }
 {
-    let m = matrix_number(matrix);
-    let r = range_number(range);
-    if depth == 8 {
-        if m == 3 {
-            return BuiltTransform::Row(row(smpte240_rows(mode) + r));
-        }
-        if m < 5 {
-            return BuiltTransform::Row(row(2 * m + r));
-        }
+    if !is_stored(depth, matrix) {
         return BuiltTransform::NoRow;
     }
-    if 2 < m {
-        return BuiltTransform::NoRow;
-    }
-    if depth == 10 {
-        return BuiltTransform::Row(row(10 + 2 * m + r));
-    }
-    if depth == 12 {
-        return BuiltTransform::Row(row(16 + 2 * m + r));
-    }
-    BuiltTransform::NoRow
+    let k = stored_weights(matrix, mode);
+    BuiltTransform::Row(rule(depth, range, k))
 }

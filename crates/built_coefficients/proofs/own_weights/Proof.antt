@@ -1,9 +1,9 @@
--- `built_coefficients::matrix_number` meets its contract.
+-- `built_coefficients::own_weights` meets its contract.
 -- Assumes nothing.
 use borrow.Author.Needs.{needs}
-use Rattle.built_coefficients.specs.Built.{matrixNumber}
-use Rattle.built_coefficients.proofs.matrix_number.Statement.{statement}
-use Rattle.built_coefficients.proofs.matrix_number.Tie as tie
+use Rattle.yuv_support.specs.Settings.{weightR, weightB}
+use Rattle.built_coefficients.proofs.own_weights.Statement.{statement}
+use Rattle.built_coefficients.proofs.own_weights.Tie as tie
 
 enum-told : tie.Need-enum-told
 enum-told c = search needs
@@ -27,35 +27,35 @@ enum-told-7 : tie.Need-enum-told-7
 enum-told-7 c = search needs
 
 returns : tie.Need-returns
-unfolding matrixNumber
+unfolding weightR weightB
 returns c = rw (c .enum-told .given .1)
 
 returns-2 : tie.Need-returns-2
-unfolding matrixNumber
+unfolding weightR weightB
 returns-2 c = rw (c .enum-told2 .given .1)
 
 returns-3 : tie.Need-returns-3
-unfolding matrixNumber
+unfolding weightR weightB
 returns-3 c = rw (c .enum-told3 .given .1)
 
 returns-4 : tie.Need-returns-4
-unfolding matrixNumber
+unfolding weightR weightB
 returns-4 c = rw (c .enum-told4 .given .1)
 
 returns-5 : tie.Need-returns-5
-unfolding matrixNumber
+unfolding weightR weightB
 returns-5 c = rw (c .enum-told5 .given .1)
 
 returns-6 : tie.Need-returns-6
-unfolding matrixNumber
+unfolding weightR weightB
 returns-6 c = rw (c .enum-told6 .given .1)
 
 returns-7 : tie.Need-returns-7
-unfolding matrixNumber
+unfolding weightR weightB
 returns-7 c = rw (c .enum-told7 .given .1)
 
-pub matrix-number-spec : {M : Type 1} → statement M
-matrix-number-spec =
+pub own-weights-spec : {M : Type 1} → statement M
+own-weights-spec =
     tie.close
     (tie.spec
     enum-told
