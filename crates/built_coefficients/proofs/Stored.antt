@@ -3,7 +3,7 @@
 use mathlib.Core.Path.{_≡_, refl, ap, sym, _∙_}
 use mathlib.Core.Bool.{Bool, true, false, not}
 use mathlib.Core.List.{List, [], _∷_}
-use Prim.Native.Nat.{ℕ, _+_, _≤_}
+use Prim.Native.Nat.{ℕ}
 use native.Mathlib.Omega.{arith}
 use lib.Dec.{T}
 use borrow.Author.Tests.{not-true, not-false}
@@ -21,7 +21,7 @@ use Rattle.yuv_support.proofs.Coefficients.{stored-known}
 use Rattle.yuv_support.proofs.YuvStandardMatrix.{the-type}
 use Rattle.built_coefficients.specs.declared.Weights.{Weights}
 use Rattle.built_coefficients.specs.declared.BuiltTransform.the-variants.{Row, NoRow}
-use Rattle.built_coefficients.specs.Built.{builtOf, StoredBy}
+use Rattle.built_coefficients.specs.Built.{builtOf, Small, StoredBy}
 
 abbrev pub weightsOf : YuvStandardMatrix → Weights
 weightsOf m = record { kr = weightR m; kb = weightB m }
@@ -30,26 +30,26 @@ weightsOf m = record { kr = weightR m; kb = weightB m }
 abbrev pub others : List ℕ
 others = 0 ∷ 1 ∷ 2 ∷ 4 ∷ 5 ∷ 6 ∷ []
 
-pub own : (m : YuvStandardMatrix) (mode : YuvMode) → OneOf others (tagOf the-type m) → StoredBy m mode (weightsOf m)
+pub own : (m : YuvStandardMatrix) (mode : YuvMode) → OneOf others (tagOf the-type m) → Small (weightsOf m) × StoredBy m mode (weightsOf m)
 unfolding storedOf weightR weightB weightG
-own Bt601 mode h = (omega arith, λ d r. refl)
-own Bt709 mode h = (omega arith, λ d r. refl)
-own Bt2020 mode h = (omega arith, λ d r. refl)
+own Bt601 mode h = ((omega arith, omega arith), λ d r. refl)
+own Bt709 mode h = ((omega arith, omega arith), λ d r. refl)
+own Bt2020 mode h = ((omega arith, omega arith), λ d r. refl)
 own Smpte240 mode h = absurd (miss others 3 tt h)
-own Bt470_6 mode h = (omega arith, λ d r. refl)
-own Fcc mode h = (omega arith, λ d r. refl)
-own (Custom kr kb) mode h = (omega arith, λ d r. refl)
+own Bt470_6 mode h = ((omega arith, omega arith), λ d r. refl)
+own Fcc mode h = ((omega arith, omega arith), λ d r. refl)
+own (Custom kr kb) mode h = ((omega arith, omega arith), λ d r. refl)
 
 abbrev exchanged : Weights → Weights
 exchanged k = record { kr = k .kb; kb = k .kr }
 
-pub smpte240-as-source : StoredBy Smpte240 AsSource (exchanged (weightsOf Smpte240))
+pub smpte240-as-source : Small (exchanged (weightsOf Smpte240)) × StoredBy Smpte240 AsSource (exchanged (weightsOf Smpte240))
 unfolding storedOf weightR weightB weightG
-smpte240-as-source = (omega arith, λ d r. refl)
+smpte240-as-source = ((omega arith, omega arith), λ d r. refl)
 
-pub smpte240-matched : StoredBy Smpte240 Matched (weightsOf Smpte240)
+pub smpte240-matched : Small (weightsOf Smpte240) × StoredBy Smpte240 Matched (weightsOf Smpte240)
 unfolding storedOf weightR weightB weightG
-smpte240-matched = (omega arith, λ d r. refl)
+smpte240-matched = ((omega arith, omega arith), λ d r. refl)
 
 -- b is the answer to whether there is a row
 module _ (d : ℕ) (r : YuvRange) (m : YuvStandardMatrix) (mode : YuvMode) {b : Bool} (e : b ≡ isStored d m) where

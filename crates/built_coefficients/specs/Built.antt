@@ -2,7 +2,7 @@
 -- Definitions only.
 use mathlib.Core.Path.{_≡_}
 use mathlib.Core.Bool.{cond}
-use Prim.Native.Nat.{ℕ, _+_, _-_, _*_, _≤_, _<_}
+use Prim.Native.Nat.{ℕ, _-_, _*_, _≤_, _<_}
 use lib.Dec.{T}
 use Rattle.yuv_support.specs.declared.YuvRange.{YuvRange}
 use Rattle.yuv_support.specs.declared.YuvStandardMatrix.{YuvStandardMatrix}
@@ -22,9 +22,13 @@ unfoldable pub NearestRow : ℕ → YuvRange → YuvStandardMatrix → YuvMode �
 NearestRow d r m mode (Row k) = T (measuredAt d m mode) → NearestExact d r m k
 NearestRow d r m mode NoRow = Unit {0}
 
--- the rule for these weights gives the rows of a matrix in a mode; kr and kb together are at most a half, so that neither is above kg
+-- the rule for these weights gives the rows of a matrix in a mode
 abbrev pub StoredBy : YuvStandardMatrix → YuvMode → Weights → Type 0
-StoredBy m mode k = (k .kr + k .kb ≤ 5000) × ((d : ℕ) (r : YuvRange) → ruleOf d r (k .kr) (k .kb) (10000 - k .kr - k .kb) ≡ storedOf d r m mode)
+StoredBy m mode k = (d : ℕ) (r : YuvRange) → ruleOf d r (k .kr) (k .kb) (10000 - k .kr - k .kb) ≡ storedOf d r m mode
+
+-- neither weight is above 0.3, so that kg is above both
+abbrev pub Small : Weights → Type 0
+Small k = (k .kr ≤ 3000) × (k .kb ≤ 3000)
 
 -- M is at most twice a range (it is at most 255/219 of it)
 abbrev pub AtMostTwo : ℕ → ℕ → Type 0

@@ -5,11 +5,11 @@ use yuv_support::YuvMode;
 use yuv_support::YuvRange;
 use yuv_support::YuvStandardMatrix;
 ghost use mathlib.Core.Path.{_≡_};
-ghost use Prim.Native.Nat.{_+_, _-_, _*_, _≤_, _<_};
+ghost use Prim.Native.Nat.{_-_, _*_, _≤_, _<_};
 ghost use lib.Dec.{T};
 ghost use Rattle.yuv_support.specs.Settings.{among, depths, weightR, weightB};
 ghost use Rattle.yuv_support.specs.Coefficients.{isStored, nearest, ruleOf};
-ghost use Rattle.built_coefficients.specs.Built.{builtOf, NearestRow, StoredBy, AtMostTwo};
+ghost use Rattle.built_coefficients.specs.Built.{builtOf, NearestRow, Small, StoredBy, AtMostTwo};
 
 // The row of a setting that the source stores one for, or that it stores none.
 pub enum BuiltTransform {
@@ -53,12 +53,15 @@ fn inner(k: u64, kg: u64, max: u16, range_uv: u16) -> u32
     requires { ⌜ (k ≤ kg) × (0 < kg) × (kg ≤ 10000) × AtMostTwo max «range_uv» ⌝ }
     ensures { λ r. ⌜ r ≡ nearest (8192 * (2 * (10000 - k) * k * max)) (10000 * kg * «range_uv») ⌝ }
 {
-    to_nearest(2 * (10000 - k) * k * max as u64, 10000 * kg * range_uv as u64)
+    to_nearest(
+        2 * (10000 - k) * k * max as u64,
+        10000 * kg * range_uv as u64,
+    )
 }
 
 // The five coefficients by the weights.
 fn rule(depth: u32, range: YuvRange, k: Weights) -> CbCrInverseTransform
-    requires { ⌜ T (among depth depths) × (k .kr + k .kb ≤ 5000) ⌝ }
+    requires { ⌜ T (among depth depths) × Small k ⌝ }
     ensures { λ r. ⌜ r ≡ ruleOf depth range (k .kr) (k .kb) (10000 - k .kr - k .kb) ⌝ }
 {
     let max = yuv_support::max_of(depth);
@@ -92,7 +95,7 @@ fn own_weights(matrix: YuvStandardMatrix) -> Weights
 
 // The weights by which the source stores a matrix: those of `Smpte240` are exchanged. Matched, they are the matrix's own.
 fn stored_weights(matrix: YuvStandardMatrix, mode: YuvMode) -> Weights
-    ensures { λ r. ⌜ StoredBy matrix mode r ⌝ }
+    ensures { λ r. ⌜ Small r × StoredBy matrix mode r ⌝ }
 {
     let k = own_weights(matrix);
     match matrix {
