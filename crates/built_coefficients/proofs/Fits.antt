@@ -1,18 +1,17 @@
 -- How large the formula's numbers get: a numerator is at most four times its denominator, and M at most twice a range.
 -- Assumes nothing.
-use Prim.Native.Nat.{ℕ, _-_, _*_, _≤_, _<_}
-use native.Mathlib.Nat.{mul-le-mul, div-le-of-le-mul}
+use Prim.Native.Nat.{ℕ, _-_, _*_, _/_, _^_, _≤_, _<_}
+use native.Mathlib.Nat.{mul-le-mul, div-le-of-le-mul, lt-of-le-of-lt}
 use native.Mathlib.Omega.{arith}
 use lib.Dec.{T}
 use Rattle.yuv_support.specs.declared.YuvRange.{YuvRange}
 use Rattle.yuv_support.specs.declared.YuvRange.the-variants.{Limited, Full}
 use Rattle.yuv_support.specs.Settings.{among, depths, maxOf, rangeY, rangeC}
-use Rattle.yuv_support.specs.Coefficients.{nearest}
 use Rattle.yuv_support.proofs.Depths.{by-depth}
 use Rattle.built_coefficients.specs.Built.{AtMostTwo}
 
-pub nearest-fits : (num den : ℕ) → num ≤ 4 * den → nearest (8192 * num) den ≤ 32769
-nearest-fits num den h = div-le-of-le-mul (2 * den) (omega arith)
+pub quotient-fits : {m : ℕ} (den : ℕ) → m ≤ 65538 * den → m / (2 * den) < 2 ^ 32
+quotient-fits den h = lt-of-le-of-lt (div-le-of-le-mul (2 * den) (let q : _ ≤ 2 * den * 32769 = omega arith in q)) (omega arith)
 
 pub outer-fits : (k m range : ℕ) → m ≤ 2 * range → 2 * (10000 - k) * m ≤ 4 * (10000 * range)
 outer-fits k m range h = let p : 2 * (10000 - k) * m ≤ 20000 * (2 * range) = mul-le-mul (omega arith) h in omega (arith, p)

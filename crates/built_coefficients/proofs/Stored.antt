@@ -30,26 +30,26 @@ weightsOf m = record { kr = weightR m; kb = weightB m }
 abbrev pub others : List ℕ
 others = 0 ∷ 1 ∷ 2 ∷ 4 ∷ 5 ∷ 6 ∷ []
 
-pub own : (m : YuvStandardMatrix) (mode : YuvMode) → OneOf others (tagOf the-type m) → Small (weightsOf m) × StoredBy m mode (weightsOf m)
+pub own : (m : YuvStandardMatrix) (mode : YuvMode) → OneOf others (tagOf the-type m) → StoredBy m mode (weightsOf m) × Small (weightsOf m)
 unfolding storedOf weightR weightB weightG
-own Bt601 mode h = ((omega arith, omega arith), λ d r. refl)
-own Bt709 mode h = ((omega arith, omega arith), λ d r. refl)
-own Bt2020 mode h = ((omega arith, omega arith), λ d r. refl)
+own Bt601 mode h = (λ d r. refl, (omega arith, omega arith))
+own Bt709 mode h = (λ d r. refl, (omega arith, omega arith))
+own Bt2020 mode h = (λ d r. refl, (omega arith, omega arith))
 own Smpte240 mode h = absurd (miss others 3 tt h)
-own Bt470_6 mode h = ((omega arith, omega arith), λ d r. refl)
-own Fcc mode h = ((omega arith, omega arith), λ d r. refl)
-own (Custom kr kb) mode h = ((omega arith, omega arith), λ d r. refl)
+own Bt470_6 mode h = (λ d r. refl, (omega arith, omega arith))
+own Fcc mode h = (λ d r. refl, (omega arith, omega arith))
+own (Custom kr kb) mode h = (λ d r. refl, (omega arith, omega arith))
 
 abbrev exchanged : Weights → Weights
 exchanged k = record { kr = k .kb; kb = k .kr }
 
-pub smpte240-as-source : Small (exchanged (weightsOf Smpte240)) × StoredBy Smpte240 AsSource (exchanged (weightsOf Smpte240))
+pub smpte240-as-source : StoredBy Smpte240 AsSource (exchanged (weightsOf Smpte240)) × Small (exchanged (weightsOf Smpte240))
 unfolding storedOf weightR weightB weightG
-smpte240-as-source = ((omega arith, omega arith), λ d r. refl)
+smpte240-as-source = (λ d r. refl, (omega arith, omega arith))
 
-pub smpte240-matched : Small (weightsOf Smpte240) × StoredBy Smpte240 Matched (weightsOf Smpte240)
+pub smpte240-matched : StoredBy Smpte240 Matched (weightsOf Smpte240) × Small (weightsOf Smpte240)
 unfolding storedOf weightR weightB weightG
-smpte240-matched = ((omega arith, omega arith), λ d r. refl)
+smpte240-matched = (λ d r. refl, (omega arith, omega arith))
 
 -- b is the answer to whether there is a row
 module _ (d : ℕ) (r : YuvRange) (m : YuvStandardMatrix) (mode : YuvMode) {b : Bool} (e : b ≡ isStored d m) where

@@ -95,7 +95,7 @@ fn own_weights(matrix: YuvStandardMatrix) -> Weights
 
 // The weights by which the source stores a matrix: those of `Smpte240` are exchanged. Matched, they are the matrix's own.
 fn stored_weights(matrix: YuvStandardMatrix, mode: YuvMode) -> Weights
-    ensures { λ r. ⌜ Small r × StoredBy matrix mode r ⌝ }
+    ensures { λ r. ⌜ StoredBy matrix mode r × Small r ⌝ }
 {
     let k = own_weights(matrix);
     match matrix {

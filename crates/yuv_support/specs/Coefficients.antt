@@ -1,4 +1,4 @@
--- Document 01, "Coefficients", and document 02, slip 4: the five whole-number coefficients of a setting, and question 13.
+-- Document 01, "Coefficients", and document 02, slips 4 and 6: the five whole-number coefficients of a setting, and question 13.
 -- Definitions only.
 use Prim.Native.Nat.{ℕ, _+_, _-_, _*_, _/_, _≤_, min}
 use mathlib.Core.Bool.{Bool, true, false, cond, _&&_}

@@ -21,14 +21,14 @@ stored-weights-requires c κs = search needs
 rule-requires : tie.Need-rule-requires
 rule-requires c κs =
     let a = c .before .before .before .args in
-    (known (a .depth) (a .range) (a .matrix) (a .mode) (c .before .before .is-stored .ensures) (c .before .if1 .left), c .stored-weights .ensures .0)
+    (known (a .depth) (a .range) (a .matrix) (a .mode) (c .before .before .is-stored .ensures) (c .before .if1 .left), c .stored-weights .ensures .1)
 
 returns-2 : tie.Need-returns-2
 returns-2 c =
     let a = c .before .before .before .before .args in
     both (a .depth) (a .range) (a .matrix) (a .mode)
     (row (a .depth) (a .range) (a .matrix) (a .mode) (c .before .before .before .is-stored .ensures) (c .before .before .if1 .left)
-    (c .rule .ensures ∙ c .before .stored-weights .ensures .1 (a .depth) (a .range)))
+    (c .rule .ensures ∙ c .before .stored-weights .ensures .0 (a .depth) (a .range)))
 
 pub get-built-inverse-transform-spec : {M : Type 1} → statement M
 get-built-inverse-transform-spec =

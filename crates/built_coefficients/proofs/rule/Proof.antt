@@ -8,15 +8,11 @@ use Rattle.built_coefficients.proofs.Fits.{luma-range, chroma-range}
 use Rattle.built_coefficients.proofs.rule.Statement.{statement}
 use Rattle.built_coefficients.proofs.rule.Tie as tie
 
-of-luma : (c : tie.After-get-yuv-range) → AtMostTwo (c .before .max-of .result) (c .get-yuv-range .result .«range_y»)
-of-luma c =
+ranges : (c : tie.After-get-yuv-range) → AtMostTwo (c .before .max-of .result) (c .get-yuv-range .result .«range_y») × AtMostTwo (c .before .max-of .result) (c .get-yuv-range .result .«range_uv»)
+ranges c =
     let a = c .before .before .args in
-    rw (c .before .max-of .ensures, c .get-yuv-range .ensures) (luma-range (a .depth) (a .range) (c .before .before .pre .0))
-
-of-chroma : (c : tie.After-get-yuv-range) → AtMostTwo (c .before .max-of .result) (c .get-yuv-range .result .«range_uv»)
-of-chroma c =
-    let a = c .before .before .args in
-    rw (c .before .max-of .ensures, c .get-yuv-range .ensures) (chroma-range (a .depth) (a .range) (c .before .before .pre .0))
+    let d = c .before .before .pre .0 in
+    rw (c .before .max-of .ensures, c .get-yuv-range .ensures) (luma-range (a .depth) (a .range) d, chroma-range (a .depth) (a .range) d)
 
 max-of-requires : tie.Need-max-of-requires
 max-of-requires c κs = search needs
@@ -31,19 +27,19 @@ sub-kg-2 : tie.Need-sub-kg-2
 sub-kg-2 c = search needs
 
 luma-requires : tie.Need-luma-requires
-luma-requires c κs = of-luma c
+luma-requires c κs = search (ranges c)
 
 outer-requires : tie.Need-outer-requires
-outer-requires c κs = (omega arith, of-chroma (c .before))
+outer-requires c κs = (omega arith, ranges (c .before) .1)
 
 outer-requires-2 : tie.Need-outer-requires-2
-outer-requires-2 c κs = (omega arith, of-chroma (c .before .before))
+outer-requires-2 c κs = (omega arith, ranges (c .before .before) .1)
 
 inner-requires : tie.Need-inner-requires
-inner-requires c κs = (omega arith, omega arith, omega arith, of-chroma (c .before .before .before))
+inner-requires c κs = (omega arith, omega arith, omega arith, ranges (c .before .before .before) .1)
 
 inner-requires-2 : tie.Need-inner-requires-2
-inner-requires-2 c κs = (omega arith, omega arith, omega arith, of-chroma (c .before .before .before .before))
+inner-requires-2 c κs = (omega arith, omega arith, omega arith, ranges (c .before .before .before .before) .1)
 
 returns : tie.Need-returns
 unfolding exactY exactOuter exactInner

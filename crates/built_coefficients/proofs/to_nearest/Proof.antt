@@ -2,7 +2,7 @@
 -- Assumes nothing.
 use borrow.Author.Needs.{needs}
 use native.Mathlib.Omega.{arith}
-use Rattle.built_coefficients.proofs.Fits.{nearest-fits}
+use Rattle.built_coefficients.proofs.Fits.{quotient-fits}
 use Rattle.built_coefficients.proofs.to_nearest.Statement.{statement}
 use Rattle.built_coefficients.proofs.to_nearest.Tie as tie
 
@@ -22,7 +22,7 @@ div-result : tie.Need-div-result
 div-result c = search needs
 
 cast-result : tie.Need-cast-result
-cast-result c = omega (arith, nearest-fits (c .args .num) (c .args .den) (c .pre .2))
+cast-result c = record { fits = quotient-fits (c .args .den) (omega arith) }
 
 returns : tie.Need-returns
 returns c = search needs
