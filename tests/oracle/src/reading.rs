@@ -7,11 +7,12 @@ use crate::{model, reference, Clipped, Codes, Planes, Request, SettingsUsed};
 /// The settings that a conversion uses, of codes that no question refuses.
 pub fn settings(codes: &Codes) -> SettingsUsed {
     let source = reference::settings(codes);
-    if codes.mode == 0 || !smpte240_at_8_bits(codes) {
-        return source;
+    match row(codes) {
+        Some([y, cr, cb, g1, g2]) if codes.mode == 1 && smpte240_at_8_bits(codes) => {
+            SettingsUsed { y, cr, cb, g1, g2, ..source }
+        }
+        _ => source,
     }
-    let [y, cr, cb, g1, g2] = smpte240(codes.range);
-    SettingsUsed { y, cr, cb, g1, g2, ..source }
 }
 
 /// The settings whose coefficients are not the Rust's in matched mode.
@@ -19,15 +20,23 @@ pub fn smpte240_at_8_bits(codes: &Codes) -> bool {
     (codes.depth, codes.matrix) == (8, 3)
 }
 
-/// y, cr, cb, g1 and g2 of SMPTE 240M at 8 bits: each exact coefficient times 8192, to the nearest
-/// whole number. The weights are in thousandths.
-fn smpte240(range: u32) -> [u32; 5] {
-    let (kr, kb, max) = (212, 87, 255);
-    let kg = 1000 - kr - kb;
-    let (range_y, range_c) = if range == 0 { (219, 224) } else { (max, max) };
-    let outer = |k: u64| nearest(8192 * 2 * (1000 - k) * max, 1000 * range_c);
-    let inner = |k: u64| nearest(8192 * 2 * (1000 - k) * k * max, 1000 * kg * range_c);
-    [nearest(8192 * max, range_y), outer(kr), outer(kb), inner(kr), inner(kb)]
+/// kr and kb of the matrices that the source stores rows for, in ten-thousandths.
+const WEIGHTS: [(u64, u64); 5] = [(2990, 1140), (2126, 722), (2627, 593), (2120, 870), (2220, 713)];
+
+/// y, cr, cb, g1 and g2 of known codes that the source stores a row for: each exact coefficient times
+/// 8192, to the nearest whole number. In mode 0 `Smpte240` has its weights exchanged.
+pub fn row(codes: &Codes) -> Option<[u32; 5]> {
+    let matrices = if codes.depth == 8 { 5 } else { 3 };
+    let (mut kr, mut kb) = *WEIGHTS[..matrices].get(codes.matrix as usize)?;
+    if codes.matrix == 3 && codes.mode == 0 {
+        (kr, kb) = (kb, kr);
+    }
+    let (kg, step) = (10_000 - kr - kb, 1 << (codes.depth - 8));
+    let max = 256 * step - 1;
+    let (range_y, range_c) = if codes.range == 0 { (219 * step, 224 * step) } else { (max, max) };
+    let outer = |k: u64| nearest(8192 * 2 * (10_000 - k) * max, 10_000 * range_c);
+    let inner = |k: u64| nearest(8192 * 2 * (10_000 - k) * k * max, 10_000 * kg * range_c);
+    Some([nearest(8192 * max, range_y), outer(kr), outer(kb), inner(kr), inner(kb)])
 }
 
 /// The whole number nearest to n / d, which must not lie halfway between two.

@@ -1,13 +1,16 @@
 //! Compares the settings used, named and Custom, with those of the Rust, in matched mode with
-//! `src/reading.rs`, and with questions 1, 2 and 13.
+//! `src/reading.rs`, and with questions 1, 2 and 13; the stored rows also with their formula.
 use oracle::cases::{every_code, limit, packings, EDGES, MODES};
-use oracle::{library, model, random::Random, reading, tally::Tally, Codes};
+use oracle::{
+    library, model, random::Random, reading, reference, tally::Tally, Codes, SettingsUsed,
+};
 use std::process::ExitCode;
 
 const DEPTHS: [u32; 3] = [8, 10, 12];
 
 fn main() -> ExitCode {
     let mut tally = Tally::default();
+    by_formula(&mut tally);
     named_and_unknown(&mut tally);
     let mut random = Random(2024);
     for depth in DEPTHS {
@@ -47,11 +50,39 @@ fn compare(tally: &mut Tally, codes: Codes) {
         tally.differ(0, || text("the library on"));
     }
     if matrix == 6 && wanted.number == 0 {
-        let five = [wanted.y, wanted.cr, wanted.cb, wanted.g1, wanted.g2].map(i64::from);
-        if five != model::computed(depth, range, kr, kb) {
+        if five(&wanted).map(i64::from) != model::computed(depth, range, kr, kb) {
             tally.differ(1, || text("the model, not the library, on"));
         }
     }
+}
+
+/// The rows that the source stores, by the formula of document 02's slip 6, which stops where a
+/// coefficient lies halfway between two whole numbers.
+fn by_formula(tally: &mut Tally) {
+    let mut rows = [0, 0];
+    for depth in DEPTHS {
+        for code in 0..2 * 7 * 2 {
+            let (range, matrix, mode) = (code % 2, code / 2 % 7, code / 14);
+            let (sampling, order, packing, kr, kb) = (0, 0, 0, 0.0, 0.0);
+            let codes = Codes { depth, sampling, order, range, matrix, packing, mode, kr, kb };
+            let Some(row) = reading::row(&codes) else { continue };
+            rows[mode as usize] += 1;
+            if five(&library::settings(&codes)) != row {
+                tally.differ(0, || format!("  the library on {codes:?}\n  wanted {row:?}"));
+            }
+            if mode == 0 && five(&reference::settings(&codes)) != row {
+                tally.differ(1, || format!("  the Rust on {codes:?}\n  wanted {row:?}"));
+            }
+        }
+    }
+    println!(
+        "stored rows by formula: {} of mode 0, {} matched, no number halfway",
+        rows[0], rows[1]
+    );
+}
+
+fn five(s: &SettingsUsed) -> [u32; 5] {
+    [s.y, s.cr, s.cb, s.g1, s.g2]
 }
 
 /// Known and unknown codes in all combinations. The named matrices ignore the weights.
