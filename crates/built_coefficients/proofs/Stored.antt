@@ -21,16 +21,16 @@ use Rattle.yuv_support.proofs.Coefficients.{stored-known}
 use Rattle.yuv_support.proofs.YuvStandardMatrix.{the-type}
 use Rattle.built_coefficients.specs.declared.Weights.{Weights}
 use Rattle.built_coefficients.specs.declared.BuiltTransform.the-variants.{Row, NoRow}
-use Rattle.built_coefficients.specs.Built.{builtOf, Small, StoredBy}
+use Rattle.built_coefficients.specs.Built.{builtOf, SmallWeights, StoredBy}
 
-abbrev pub weightsOf : YuvStandardMatrix → Weights
-weightsOf m = record { kr = weightR m; kb = weightB m }
+abbrev pub ownWeights : YuvStandardMatrix → Weights
+ownWeights m = record { kr = weightR m; kb = weightB m }
 
 -- every matrix but `Smpte240`, by its variant's number
 abbrev pub others : List ℕ
 others = 0 ∷ 1 ∷ 2 ∷ 4 ∷ 5 ∷ 6 ∷ []
 
-pub own : (m : YuvStandardMatrix) (mode : YuvMode) → OneOf others (tagOf the-type m) → StoredBy m mode (weightsOf m) × Small (weightsOf m)
+pub own : (m : YuvStandardMatrix) (mode : YuvMode) → OneOf others (tagOf the-type m) → StoredBy m mode (ownWeights m) × SmallWeights (ownWeights m)
 unfolding storedOf weightR weightB weightG
 own Bt601 mode h = (λ d r. refl, (omega arith, omega arith))
 own Bt709 mode h = (λ d r. refl, (omega arith, omega arith))
@@ -43,11 +43,11 @@ own (Custom kr kb) mode h = (λ d r. refl, (omega arith, omega arith))
 abbrev exchanged : Weights → Weights
 exchanged k = record { kr = k .kb; kb = k .kr }
 
-pub smpte240-as-source : StoredBy Smpte240 AsSource (exchanged (weightsOf Smpte240)) × Small (exchanged (weightsOf Smpte240))
+pub smpte240-as-source : StoredBy Smpte240 AsSource (exchanged (ownWeights Smpte240)) × SmallWeights (exchanged (ownWeights Smpte240))
 unfolding storedOf weightR weightB weightG
 smpte240-as-source = (λ d r. refl, (omega arith, omega arith))
 
-pub smpte240-matched : StoredBy Smpte240 Matched (weightsOf Smpte240) × Small (weightsOf Smpte240)
+pub smpte240-matched : StoredBy Smpte240 Matched (ownWeights Smpte240) × SmallWeights (ownWeights Smpte240)
 unfolding storedOf weightR weightB weightG
 smpte240-matched = (λ d r. refl, (omega arith, omega arith))
 

@@ -27,9 +27,9 @@ abbrev pub StoredBy : YuvStandardMatrix → YuvMode → Weights → Type 0
 StoredBy m mode k = (d : ℕ) (r : YuvRange) → ruleOf d r (k .kr) (k .kb) (10000 - k .kr - k .kb) ≡ storedOf d r m mode
 
 -- neither weight is above 0.3, so that kg is above both
-abbrev pub Small : Weights → Type 0
-Small k = (k .kr ≤ 3000) × (k .kb ≤ 3000)
+abbrev pub SmallWeights : Weights → Type 0
+SmallWeights k = (k .kr ≤ 3000) × (k .kb ≤ 3000)
 
--- M is at most twice a range (it is at most 255/219 of it)
+-- M is at most twice a range (it is less than 256/219 of it)
 abbrev pub AtMostTwo : ℕ → ℕ → Type 0
 AtMostTwo m range = (0 < range) × (m ≤ 2 * range)

@@ -9,7 +9,7 @@ ghost use Prim.Native.Nat.{_-_, _*_, _≤_, _<_};
 ghost use lib.Dec.{T};
 ghost use Rattle.yuv_support.specs.Settings.{among, depths, weightR, weightB};
 ghost use Rattle.yuv_support.specs.Coefficients.{isStored, nearest, ruleOf};
-ghost use Rattle.built_coefficients.specs.Built.{builtOf, NearestRow, Small, StoredBy, AtMostTwo};
+ghost use Rattle.built_coefficients.specs.Built.{builtOf, NearestRow, SmallWeights, StoredBy, AtMostTwo};
 
 // The row of a setting that the source stores one for, or that it stores none.
 pub enum BuiltTransform {
@@ -61,7 +61,7 @@ fn inner(k: u64, kg: u64, max: u16, range_uv: u16) -> u32
 
 // The five coefficients by the weights.
 fn rule(depth: u32, range: YuvRange, k: Weights) -> CbCrInverseTransform
-    requires { ⌜ T (among depth depths) × Small k ⌝ }
+    requires { ⌜ T (among depth depths) × SmallWeights k ⌝ }
     ensures { λ r. ⌜ r ≡ ruleOf depth range (k .kr) (k .kb) (10000 - k .kr - k .kb) ⌝ }
 {
     let max = yuv_support::max_of(depth);
@@ -95,7 +95,7 @@ fn own_weights(matrix: YuvStandardMatrix) -> Weights
 
 // The weights by which the source stores a matrix: those of `Smpte240` are exchanged. Matched, they are the matrix's own.
 fn stored_weights(matrix: YuvStandardMatrix, mode: YuvMode) -> Weights
-    ensures { λ r. ⌜ StoredBy matrix mode r × Small r ⌝ }
+    ensures { λ r. ⌜ StoredBy matrix mode r × SmallWeights r ⌝ }
 {
     let k = own_weights(matrix);
     match matrix {
