@@ -3,12 +3,13 @@
 ghost use mathlib.Core.Path.{_≡_};
 ghost use Rattle.yuv_support.specs.Settings.{depths8, depths16};
 ghost use Rattle.yuv_support.specs.Distance.{AnySamples, WithinIfLow};
-ghost use Rattle.yuv_support.specs.Conversion.{answerTo, clippedAfter, destinationAfter, Demand3After};
-ghost use Rattle.yuv_error.specs.Told.{asReport};
+ghost use Rattle.yuv_support.specs.Conversion.{answerTo, clippedAfter, destinationAfter, Demand3After, answerToBand, rowsAfter, clippedAfterBand, destinationAfterBand, Demand3AfterBand};
+ghost use Rattle.yuv_error.specs.Told.{asReport, asBandReport};
 ghost use Rattle.settings_used.specs.Used.{settingsUsedOf};
 ghost use Rattle.row_readers.specs.Readers.{extentOf, rowPlace, chromaRowPlace};
 use row_readers::Part;
 use settings_used::SettingsUsed;
+use yuv_error::BandReport;
 use yuv_error::Report;
 use yuv_support::Codes;
 use yuv_support::YuvPlanarImage;
@@ -70,6 +71,66 @@ pub extern "C" fn dethrowg_yuv16_to_rgb(
         v,
         rgb,
         rgb_stride,
+    ))
+}
+
+// A band of rows of byte planes.
+#[no_mangle]
+pub extern "C" fn dethrowg_yuv8_to_rgb_band(
+    codes: Codes,
+    image: YuvPlanarImage,
+    y: &[u8],
+    u: &[u8],
+    v: &[u8],
+    rgb: &mut [u8],
+    rgb_stride: u32,
+    first: u32,
+    limit: u32,
+) -> BandReport
+    ensures { λ r. ⌜ r ≡ asBandReport (answerToBand depths8 codes image (now (y .entry)) (now (u .entry)) (now (v .entry)) «rgb_stride» (now (rgb .entry)) first) (clippedAfterBand depths8 codes image (now (y .entry)) (now (u .entry)) (now (v .entry)) «rgb_stride» (now (rgb .entry)) first limit) first (rowsAfter depths8 codes image (now (y .entry)) (now (u .entry)) (now (v .entry)) «rgb_stride» (now (rgb .entry)) first limit) ⌝ }
+    ensures { λ r. ⌜ now (rgb .exit) ≡ destinationAfterBand depths8 codes image (now (y .entry)) (now (u .entry)) (now (v .entry)) «rgb_stride» (now (rgb .entry)) first limit ⌝ }
+    ensures { λ r. ⌜ Demand3AfterBand AnySamples depths8 codes image (now (y .entry)) (now (u .entry)) (now (v .entry)) «rgb_stride» (now (rgb .entry)) first limit (now (rgb .exit)) ⌝ }
+{
+    yuv_error::band_report_of(yuv_to_rgba_bilinear::yuv_to_rgbx_band(
+        codes,
+        image,
+        y,
+        u,
+        v,
+        rgb,
+        rgb_stride,
+        first,
+        limit,
+    ))
+}
+
+// A band of rows of u16 planes of 10 or 12 bits.
+#[no_mangle]
+pub extern "C" fn dethrowg_yuv16_to_rgb_band(
+    codes: Codes,
+    image: YuvPlanarImage,
+    y: &[u16],
+    u: &[u16],
+    v: &[u16],
+    rgb: &mut [u16],
+    rgb_stride: u32,
+    first: u32,
+    limit: u32,
+) -> BandReport
+    ensures { λ r. ⌜ r ≡ asBandReport (answerToBand depths16 codes image (now (y .entry)) (now (u .entry)) (now (v .entry)) «rgb_stride» (now (rgb .entry)) first) (clippedAfterBand depths16 codes image (now (y .entry)) (now (u .entry)) (now (v .entry)) «rgb_stride» (now (rgb .entry)) first limit) first (rowsAfter depths16 codes image (now (y .entry)) (now (u .entry)) (now (v .entry)) «rgb_stride» (now (rgb .entry)) first limit) ⌝ }
+    ensures { λ r. ⌜ now (rgb .exit) ≡ destinationAfterBand depths16 codes image (now (y .entry)) (now (u .entry)) (now (v .entry)) «rgb_stride» (now (rgb .entry)) first limit ⌝ }
+    ensures { λ r. ⌜ Demand3AfterBand WithinIfLow depths16 codes image (now (y .entry)) (now (u .entry)) (now (v .entry)) «rgb_stride» (now (rgb .entry)) first limit (now (rgb .exit)) ⌝ }
+{
+    yuv_error::band_report_of(yuv_p16_to_rgba16_bilinear::yuv16_to_rgbx_band(
+        codes,
+        image,
+        y,
+        u,
+        v,
+        rgb,
+        rgb_stride,
+        first,
+        limit,
     ))
 }
 

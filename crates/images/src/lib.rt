@@ -1,4 +1,4 @@
-// The geometry of a planar picture, and the questions of a call in document 01's order: of a conversion, and of each reader.
+// The geometry of a planar picture, and the questions of a call in document 01's order: of a conversion, of a band, and of each reader.
 // A question is asked only where those before it held, so a later one may use what they said.
 ghost use mathlib.Core.Path.{_≡_};
 ghost use mathlib.Core.Bool.{true};
@@ -8,8 +8,8 @@ ghost use lib.Dec.{T, leb};
 ghost use lib.ListN.{length};
 ghost use Rattle.yuv_support.specs.Settings.{among, depths};
 ghost use Rattle.yuv_support.specs.Blend.{chromaWidth, chromaHeight, nextRow, nearRow};
-ghost use Rattle.yuv_support.specs.Picture.{channelsOf};
-ghost use Rattle.yuv_support.specs.Questions.{verdict, ask, extent, decoded, samplingKnown, codesKnown, chromaPlanes, weightsUsable, rowBelow, partOf, questionsOf, settingsQuestions, rowQuestions, chromaRowQuestions};
+ghost use Rattle.yuv_support.specs.Picture.{channelsOf, bandRows};
+ghost use Rattle.yuv_support.specs.Questions.{verdict, ask, extent, decoded, samplingKnown, codesKnown, chromaPlanes, weightsUsable, rowBelow, firstRowUsable, partOf, questionsOf, bandQuestions, settingsQuestions, rowQuestions, chromaRowQuestions};
 ghost use Rattle.yuv_error.specs.Told.{told};
 ghost use Rattle.images.specs.Rows.{otherRow, chromaRows};
 ghost use Rattle.images.specs.Request.{requestOf, constraints};
@@ -135,6 +135,18 @@ pub fn row_length(width: u32, order: YuvSourceChannels) -> u32
     width * yuv_support::get_channels_count(order) as u32
 }
 
+// How many rows a band has, from row `first` on: no more than the limit and the rows left, and an even number unless it reaches the last row.
+pub fn band_rows(height: u32, first: u32, limit: u32) -> u32
+    requires { ⌜ first ≤ height ⌝ }
+    ensures { λ r. ⌜ r ≡ bandRows height first limit ⌝ }
+{
+    let left = height - first;
+    if left <= limit {
+        return left;
+    }
+    limit - limit % 2
+}
+
 // Question 1.
 fn check_sampling(sampling: u32) -> YuvError
     ensures { λ r. ⌜ told r ≡ verdict (samplingKnown sampling ∷ []) ⌝ }
@@ -251,6 +263,22 @@ fn check_row_below(row: u32, height: u32) -> YuvError
     YuvError::RowOutside
 }
 
+// Question 19.
+fn check_first_row(first: u32, height: u32) -> YuvError
+    ensures { λ r. ⌜ told r ≡ verdict (firstRowUsable first height ∷ []) ⌝ }
+{
+    if height < first {
+        return YuvError::UnusableFirstRow;
+    }
+    if first % 2 == 0 {
+        return YuvError::Accepted;
+    }
+    if first == height {
+        return YuvError::Accepted;
+    }
+    YuvError::UnusableFirstRow
+}
+
 // Questions 1 to 13 of a conversion. Whether the depth is known is the caller's to say: it goes by the element's width.
 pub fn check_conversion(
     codes: Codes,
@@ -284,6 +312,25 @@ pub fn check_conversion(
         return planes;
     }
     check_weights(codes)
+}
+
+// Questions 1 to 13 of the whole picture, then 19.
+pub fn check_band(
+    codes: Codes,
+    image: YuvPlanarImage,
+    lengths: Lengths,
+    rgb_stride: u32,
+    depth_known: bool,
+    first: u32,
+) -> YuvError
+    requires { ⌜ («depth_known» ≡ true → T (among (codes .depth) depths)) ⌝ }
+    ensures { λ r. ⌜ told r ≡ verdict (bandQuestions (questionsOf «depth_known» (requestOf codes image lengths «rgb_stride»)) first (image .height)) ⌝ }
+{
+    let whole = check_conversion(codes, image, lengths, rgb_stride, depth_known);
+    if !yuv_error::is_accepted(whole) {
+        return whole;
+    }
+    check_first_row(first, image.height)
 }
 
 // The questions that concern the codes alone, with the depths of either element width: 1, 2 and 13.

@@ -1,4 +1,4 @@
--- Number, expected and received of each answer, as document 01 numbers the questions.
+-- Number, expected and received of each answer, as documents 01 and 02 number the questions.
 -- Definitions only.
 use Prim.Native.Nat.{ℕ, _+_}
 use Rattle.yuv_support.specs.declared.Clipped.{Clipped}
@@ -21,10 +21,13 @@ use Rattle.yuv_error.specs.declared.YuvError.the-variants.{
   VPlaneSizeMismatch,
   UnusableWeights,
   RowOutside,
+  UnusableFirstRow,
 }
 use Rattle.yuv_error.specs.declared.Told.{Told}
 use Rattle.yuv_error.specs.declared.Converted.{Converted}
 use Rattle.yuv_error.specs.declared.Report.{Report}
+use Rattle.yuv_error.specs.declared.ConvertedBand.{ConvertedBand}
+use Rattle.yuv_error.specs.declared.BandReport.{BandReport}
 use Rattle.yuv_error.specs.declared.PlaneFault.{PlaneFault}
 use Rattle.yuv_error.specs.declared.PlaneFault.the-variants.{Nothing, Stride, Length}
 
@@ -48,6 +51,7 @@ told (VPlaneMinimumSizeMismatch size) = mismatched 11 size
 told (VPlaneSizeMismatch size) = mismatched 12 size
 told UnusableWeights = refused 13
 told RowOutside = refused 14
+told UnusableFirstRow = refused 19
 
 -- the three numbers as the struct that is handed out
 abbrev pub asTold : Verdict → Told
@@ -59,6 +63,25 @@ asReport v c = record { number = v .number; expected = v .expected; received = v
 
 abbrev pub reported : Converted → Report
 reported c = asReport (told (c .answer)) (c .clipped)
+
+-- of a band's answer also the rows written and the next first row
+abbrev pub bandNumbers : Verdict → Clipped → ℕ → ℕ → BandReport
+bandNumbers v c rows next = record {
+  number = v .number;
+  expected = v .expected;
+  received = v .received;
+  below = c .below;
+  above = c .above;
+  rows = rows;
+  next = next;
+}
+
+abbrev pub bandReported : ConvertedBand → BandReport
+bandReported b = bandNumbers (told (b .answer)) (b .clipped) (b .rows) (b .next)
+
+-- the next first row is the one after the rows written
+abbrev pub asBandReport : Verdict → Clipped → ℕ → ℕ → BandReport
+asBandReport v c first rows = bandNumbers v c rows (first + rows)
 
 -- the answer of a plane whose first question has this number
 unfoldable pub faultTold : ℕ → PlaneFault → Verdict

@@ -4,7 +4,7 @@ ghost use mathlib.Core.Path.{_≡_};
 ghost use Prim.Native.Nat.{ℕ, _≤_, _*_};
 ghost use lib.Dec.{eqb};
 ghost use Rattle.yuv_support.specs.Questions.{verdict, extent, sides, needed, destination, plane};
-ghost use Rattle.yuv_error.specs.Told.{told, faultTold, asTold, reported};
+ghost use Rattle.yuv_error.specs.Told.{told, faultTold, asTold, reported, bandReported};
 use yuv_support::Clipped;
 
 // What was needed and what was there.
@@ -44,6 +44,8 @@ pub enum YuvError {
     UnusableWeights,
     // 14
     RowOutside,
+    // 19
+    UnusableFirstRow,
 }
 
 // The same as numbers.
@@ -68,6 +70,26 @@ pub struct Report {
     pub received: u64,
     pub below: u64,
     pub above: u64,
+}
+
+// The answer of a band: the same, how many rows were written, and the next first row.
+pub struct ConvertedBand {
+    pub answer: YuvError,
+    pub clipped: Clipped,
+    pub rows: u32,
+    pub next: u32,
+}
+
+// The same as numbers.
+#[repr(C)]
+pub struct BandReport {
+    pub number: u64,
+    pub expected: u64,
+    pub received: u64,
+    pub below: u64,
+    pub above: u64,
+    pub rows: u64,
+    pub next: u64,
 }
 
 fn sizes(expected: u64, received: u64) -> MismatchedSize
@@ -123,6 +145,7 @@ pub fn told_of(e: YuvError) -> Told
         YuvError::VPlaneSizeMismatch(size) => mismatched(12, size),
         YuvError::UnusableWeights => refused(13),
         YuvError::RowOutside => refused(14),
+        YuvError::UnusableFirstRow => refused(19),
     }
 }
 
@@ -139,6 +162,24 @@ pub fn report_of(c: Converted) -> Report
         received: t.received,
         below: clipped.below as u64,
         above: clipped.above as u64,
+    }
+}
+
+// The same of a band's answer, with its rows and the next first row.
+pub fn band_report_of(b: ConvertedBand) -> BandReport
+    ensures { λ r. ⌜ r ≡ bandReported b ⌝ }
+{
+    let answer = b.answer;
+    let clipped = b.clipped;
+    let t = told_of(answer);
+    BandReport {
+        number: t.number,
+        expected: t.expected,
+        received: t.received,
+        below: clipped.below as u64,
+        above: clipped.above as u64,
+        rows: b.rows as u64,
+        next: b.next as u64,
     }
 }
 

@@ -13,4 +13,5 @@ pub mod Picture
 pub mod Questions
 pub mod Conversion
 pub mod Mode
+pub mod Bands
 pub mod Counts

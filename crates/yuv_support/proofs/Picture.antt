@@ -1,7 +1,7 @@
 -- Laws of the letters of a pixel and of the picture. Element column·channels + k of a row holds letter k of that column's pixel (`element-at`),
 -- so in the written band each pixel stands whole (`pixel-in`), its components where the definition looks for them (`component-in`); what
--- belongs to no pixel of the picture is kept (`picture-kept`); and a picture whose every component is close to the exact equation is faithful (`faithful-band`,
--- `faithful-picture`).
+-- belongs to no pixel of the band is kept (`band-kept`); and where every component is close to the exact equation the band is faithful
+-- (`faithful-band`). Neighbouring bands make one (`band-join`).
 -- Assumes nothing.
 use mathlib.Core.Path.{_≡_, refl, sym, ap, _∙_}
 use mathlib.Core.Logic.{_⊎_, inl, inr}
@@ -18,11 +18,11 @@ use Rattle.yuv_support.specs.declared.YuvSourceChannels.the-variants.{Rg
 use Rattle.yuv_support.specs.declared.Settings.{Settings}
 use Rattle.yuv_support.specs.Blend.{Frame, Cb, Cr, lumaAt, chroma16}
 use Rattle.yuv_support.specs.Component.{Component, R, G, B, componentAt}
-use Rattle.yuv_support.specs.Picture.{colour, alpha, lettersOf, channelsOf, placeIn, valueOf, pixelOf, pixelBegin, pixelIn, OfNoPixel, elementOf, band, picture}
+use Rattle.yuv_support.specs.Picture.{colour, alpha, lettersOf, channelsOf, placeIn, valueOf, pixelOf, pixelBegin, pixelIn, OfNoPixel, elementOf, band}
 use Rattle.yuv_support.specs.Questions.{needed}
-use Rattle.yuv_support.specs.Distance.{E, Close, componentIn, FaithfulBand, Faithful}
+use Rattle.yuv_support.specs.Distance.{E, Close, componentIn, FaithfulBand}
 use Rattle.yuv_support.proofs.Overlay.{below-or-not}
-use Rattle.yuv_support.proofs.Rows.{Outside, cell-at, cell-kept, row-fits, painted-length}
+use Rattle.yuv_support.proofs.Rows.{Outside, cell-at, cell-kept, row-fits, painted-length, painted-none, painted-join}
 
 -- ---- letters and channels
 
@@ -102,6 +102,16 @@ pub band-length : (s : Settings) (f : Frame) (stride first count : ℕ) (old : L
 unfolding band
 band-length s f stride first count old = painted-length (elementOf s f) stride (f .width * channelsOf (s .order)) first count old
 
+pub no-band : (s : Settings) (f : Frame) (stride first : ℕ) (old : List ℕ) → old ≡ band s f stride first 0 old
+unfolding band
+no-band s f stride first old = painted-none (elementOf s f) stride (f .width * channelsOf (s .order)) first old
+
+-- a band and the one after it
+pub band-join : (s : Settings) (f : Frame) (stride first a b : ℕ) (old : List ℕ)
+    → band s f stride first (a + b) old ≡ band s f stride (first + a) b (band s f stride first a old)
+unfolding band
+band-join s f stride first a b old = painted-join (elementOf s f) stride (f .width * channelsOf (s .order)) first a b old
+
 module _ (s : Settings) (f : Frame) (stride first count : ℕ) (old : List ℕ) (fits : f .width * channelsOf (s .order) ≤ stride) where
   letter-in : (row column k : ℕ) → first ≤ row → row < first + count → column < f .width → k < channelsOf (s .order)
       → stride * row + f .width * channelsOf (s .order) ≤ length old
@@ -165,16 +175,13 @@ module _ (s : Settings) (f : Frame) (stride : ℕ) (old : List ℕ) (close : Com
       let l = row-fits stride (f .width * channelsOf (s .order)) (f .height) row (length old) long hr in
       rw (component-in s f stride first count old fits c row column lo hi hc l) (close c row column hr hc)
 
-  pub faithful-picture : Faithful s f stride (picture s f stride old)
-  unfolding picture
-  faithful-picture = faithful-band 0 (f .height) (omega arith)
-
--- what belongs to no pixel is kept: an element of the picture's rows that is among the first of its row is a letter of a pixel
-pub picture-kept : (s : Settings) (f : Frame) (stride : ℕ) (old : List ℕ) (j : ℕ) → OfNoPixel s f stride j
-    → getD (picture s f stride old) j 0 ≡ getD old j 0
-unfolding picture band
-picture-kept s f stride old j none =
-    cell-kept (elementOf s f) stride (f .width * n) 0 (f .height) j old (outside (below-or-not (j / stride) (f .height)) (below-or-not x (f .width * n)))
+-- what belongs to no pixel is kept: an element of the band's rows that is among the first of its row is a letter of a pixel
+pub band-kept : (s : Settings) (f : Frame) (stride first count : ℕ) (old : List ℕ) (j : ℕ) → OfNoPixel s f stride first count j
+    → getD (band s f stride first count old) j 0 ≡ getD old j 0
+unfolding band
+band-kept s f stride first count old j none =
+    cell-kept (elementOf s f) stride (f .width * n) first count j old
+    (outside (below-or-not (j / stride) first) (below-or-not (j / stride) (first + count)) (below-or-not x (f .width * n)))
   where
     n : ℕ
     n = channelsOf (s .order)
@@ -188,8 +195,9 @@ picture-kept s f stride old j none =
     place : j ≡ stride * (j / stride) + n * (x / n) + x % n
     place = let a = div-add-mod j stride in let b = div-add-mod x n in omega arith
 
-    outside : (j / stride < f .height) ⊎ (f .height ≤ j / stride) → (x < f .width * n) ⊎ (f .width * n ≤ x)
-        → Outside stride (f .width * n) 0 (f .height) j
-    outside _ (inr past) = inr (inr past)
-    outside (inr below) (inl _) = inr (inl (omega arith))
-    outside (inl hr) (inl hx) = absurd (none (j / stride) (x / n) (x % n) hr (div-lt-iff-lt-mul least .1 hx) (mod-lt x least) place)
+    outside : (j / stride < first) ⊎ (first ≤ j / stride) → (j / stride < first + count) ⊎ (first + count ≤ j / stride)
+        → (x < f .width * n) ⊎ (f .width * n ≤ x) → Outside stride (f .width * n) first count j
+    outside _ _ (inr past) = inr (inr past)
+    outside (inl above) _ (inl _) = inl above
+    outside (inr _) (inr below) (inl _) = inr (inl below)
+    outside (inr lo) (inl hi) (inl hx) = absurd (none (j / stride) (x / n) (x % n) lo hi (div-lt-iff-lt-mul least .1 hx) (mod-lt x least) place)

@@ -62,6 +62,15 @@ verdict-append-accepted (q ∷ qs) b p e =
     let h = first-holds (q .holds) (verdict qs) _ (n .0) e in
     rw (h .0) (verdict-append-accepted qs b (n .1) (h .1))
 
+-- where both together are accepted, each is
+pub both-accepted : (a b : List Question) → numbered a ≡ true → verdict (a ++ b) .number ≡ 0 → (verdict a .number ≡ 0) × (verdict b .number ≡ 0)
+unfolding verdict
+both-accepted [] b p e = (refl, e)
+both-accepted (q ∷ qs) b p e =
+    let n = and-eq-true-iff (ltb 0 (q .number)) (numbered qs) .0 p in
+    let h = first-holds (q .holds) (verdict (qs ++ b)) _ (n .0) e in
+    rw (h .0) (both-accepted qs b (n .1) (h .1))
+
 -- where the first is refused, that is the verdict
 pub verdict-append-refused : (a b : List Question) → (verdict a .number ≡ 0 → ⊥) → verdict (a ++ b) ≡ verdict a
 unfolding verdict

@@ -120,6 +120,3 @@ FaithfulBand s f stride first count rgb =
     (c : Component) (row column : ℕ) → first ≤ row → row < first + count → column < f .width
     → Close (s .depth) (s .range) (s .matrix) (componentIn s rgb stride c row column)
     (E (s .depth) (s .range) (s .matrix) c (lumaAt s f row column) (chroma16 s f Cb row column) (chroma16 s f Cr row column))
-
-abbrev pub Faithful : Settings → Frame → ℕ → List ℕ → Type 0
-Faithful s f stride rgb = FaithfulBand s f stride 0 (f .height) rgb

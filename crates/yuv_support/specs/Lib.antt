@@ -7,4 +7,5 @@ pub mod Questions
 pub mod Distance
 pub mod Conversion
 pub mod Mode
+pub mod Bands
 pub mod Counts

@@ -1,10 +1,11 @@
--- Document 01, "The words of demand 3": where the pixels stand, and the whole destination after a conversion.
+-- Document 01, "The words of demand 3", and document 02, slip 5: where the pixels stand, the rows of a band, and the whole destination after
+-- a conversion.
 -- Definitions only.
-use Prim.Native.Nat.{ℕ, suc, _+_, _*_, _/_, _%_, _<_}
+use Prim.Native.Nat.{ℕ, suc, _+_, _-_, _*_, _/_, _%_, _≤_, _<_, min}
 use mathlib.Core.Path.{_≡_}
 use mathlib.Core.Bool.{cond, _&&_}
 use mathlib.Core.List.{List, [], _∷_, map}
-use lib.Dec.{leb, ltb}
+use lib.Dec.{eqb, leb, ltb}
 use lib.ListN.{length, getD, take, drop}
 use Rattle.yuv_support.specs.declared.YuvSourceChannels.{YuvSourceChannels}
 use Rattle.yuv_support.specs.declared.YuvSourceChannels.the-variants.{Rgb, Rgba, Bgra, Bgr}
@@ -59,10 +60,10 @@ pixelBegin s stride row column = stride * row + channelsOf (s .order) * column
 abbrev pub pixelIn : Settings → List ℕ → ℕ → ℕ → ℕ → List ℕ
 pixelIn s rgb stride row column = take (channelsOf (s .order)) (drop (pixelBegin s stride row column) rgb)
 
--- element j of the destination belongs to no pixel
-abbrev pub OfNoPixel : Settings → Frame → ℕ → ℕ → Type 0
-OfNoPixel s f stride j =
-    (row column k : ℕ) → row < f .height → column < f .width → k < channelsOf (s .order)
+-- element j of the destination belongs to no pixel of a band of rows
+abbrev pub OfNoPixel : Settings → Frame → ℕ → ℕ → ℕ → ℕ → Type 0
+OfNoPixel s f stride first count j =
+    (row column k : ℕ) → first ≤ row → row < first + count → column < f .width → k < channelsOf (s .order)
     → j ≡ pixelBegin s stride row column + k → ⊥
 
 -- element x of a row, counted from the row's begin: the values stand as the letters do
@@ -97,6 +98,13 @@ painted f stride n first count xs = overlay (cell f stride n first count) 0 xs
 -- the destination with the pixels of a band of rows written and all else kept
 unfoldable pub band : Settings → Frame → ℕ → ℕ → ℕ → List ℕ → List ℕ
 band s f stride first count old = painted (elementOf s f) stride (f .width * channelsOf (s .order)) first count old
+
+-- how many rows a band has, from row `first` on with a limit: min(limit, rows left), made even by dropping one row unless it reaches the
+-- last row
+unfoldable pub bandRows : ℕ → ℕ → ℕ → ℕ
+bandRows height first limit =
+    let n = min limit (height - first) in
+    cond (eqb (first + n) height) n (n - n % 2)
 
 -- the finished picture: all rows
 unfoldable pub picture : Settings → Frame → ℕ → List ℕ → List ℕ

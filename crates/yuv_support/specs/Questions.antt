@@ -1,9 +1,9 @@
--- Document 01, "Questions to every conversion", and document 02, slips 1 and 4: questions 1 to 14, the verdict, and the two readers.
+-- Document 01, "Questions to every conversion", and document 02, slips 1, 4 and 5: questions 1 to 14 and 19, the verdict, and the two readers.
 -- Definitions only.
-use Prim.Native.Nat.{ℕ, _+_, _-_, _*_}
-use mathlib.Core.Bool.{Bool, cond, _&&_}
+use Prim.Native.Nat.{ℕ, _+_, _-_, _*_, _%_}
+use mathlib.Core.Bool.{Bool, cond, _&&_, _||_}
 use mathlib.Core.List.{List, [], _∷_, _++_}
-use lib.Dec.{leb, ltb}
+use lib.Dec.{eqb, leb, ltb}
 use lib.ListN.{take, drop}
 use Rattle.yuv_support.specs.declared.YuvChromaSubsampling.{YuvChromaSubsampling}
 use Rattle.yuv_support.specs.declared.Codes.{Codes}
@@ -120,6 +120,10 @@ weightsUsable s = ask 13 (usable s)
 abbrev pub rowBelow : ℕ → ℕ → Question
 rowBelow row height = ask 14 (ltb row height)
 
+-- 19: a band's first row is not above the height, and is even or the height itself
+abbrev pub firstRowUsable : ℕ → ℕ → Question
+firstRowUsable first height = ask 19 (leb first height && (eqb (first % 2) 0 || eqb first height))
+
 -- ---- who is asked what
 
 -- a conversion: 1 to 13
@@ -138,6 +142,10 @@ questionsOf depthKnown q =
 -- the same, `known` being the depths of the element's width
 abbrev pub conversionQuestions : List ℕ → Request → List Question
 conversionQuestions known q = questionsOf (among (q .codes .depth) known) q
+
+-- a band of rows: those of the whole picture, then 19
+abbrev pub bandQuestions : List Question → ℕ → ℕ → List Question
+bandQuestions asked first height = asked ++ firstRowUsable first height ∷ []
 
 -- the settings used: the questions that concern the codes alone, 1, 2 and 13
 unfoldable pub settingsQuestions : Bool → Codes → List Question

@@ -95,6 +95,12 @@ enum-told-7 c = search needs
 refused-requires-7 : tie.Need-refused-requires-7
 refused-requires-7 c κs = search needs
 
+enum-told-8 : tie.Need-enum-told-8
+enum-told-8 c = search needs
+
+refused-requires-8 : tie.Need-refused-requires-8
+refused-requires-8 c κs = search needs
+
 returns : tie.Need-returns
 unfolding told
 returns c = rw (c .before .enum-told .given .1) (c .refused .ensures)
@@ -155,6 +161,10 @@ returns-15 : tie.Need-returns-15
 unfolding told
 returns-15 c = rw (c .before .enum-told7 .given .1) (c .refused7 .ensures)
 
+returns-16 : tie.Need-returns-16
+unfolding told
+returns-16 c = rw (c .before .enum-told8 .given .1) (c .refused8 .ensures)
+
 pub told-of-spec : {M : Type 1} → statement M
 told-of-spec =
     tie.close
@@ -189,6 +199,8 @@ told-of-spec =
     refused-requires-6
     enum-told-7
     refused-requires-7
+    enum-told-8
+    refused-requires-8
     returns
     returns-2
     returns-3
@@ -203,4 +215,5 @@ told-of-spec =
     returns-12
     returns-13
     returns-14
-    returns-15)
+    returns-15
+    returns-16)

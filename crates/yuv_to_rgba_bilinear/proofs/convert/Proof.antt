@@ -2,9 +2,7 @@
 -- Assumes nothing.
 use borrow.Author.Needs.{needs}
 use mathlib.Core.Path.{_∙_}
-use native.Mathlib.Omega.{arith}
 use Rattle.yuv_support.specs.Settings.{depths8}
-use Rattle.yuv_support.specs.Picture.{picture}
 use Rattle.yuv_support.specs.Questions.{decoded}
 use Rattle.yuv_support.proofs.Packing.{low-at-8}
 use Rattle.yuv_support.proofs.Conversion.{depth-of-8, accepted-call}
@@ -19,22 +17,21 @@ decode-requires c κs = search needs
 settings-kernel-requires : tie.Need-settings-kernel-requires
 settings-kernel-requires c κs =
     let a = c .before .before .before .before .before .args in
-    let h = accepted-ready depths8 depth-of-8 (a .codes) (a .image) (a .y .now) (a .u .now) (a .v .now) (a .rgb-stride) (a .rgb .now) (c .before .before .before .before .before .pre) in
+    let h = accepted-ready depths8 depth-of-8 (a .codes) (a .image) (a .y .now) (a .u .now) (a .v .now) (a .rgb-stride) (a .rgb .now) (c .before .before .before .before .before .pre .0) in
     rw (c .decode .ensures) (h .known, h .weights)
 
 convert-rows-requires : tie.Need-convert-rows-requires
 convert-rows-requires c κs =
     let a = c .before .before .before .before .before .before .before .args in
-    let h = accepted-call depths8 depth-of-8 (a .codes) (a .image) (a .y .now) (a .u .now) (a .v .now) (a .rgb-stride) (a .rgb .now) (c .before .before .before .before .before .before .before .pre) in
-    let ready = accepted-ready depths8 depth-of-8 (a .codes) (a .image) (a .y .now) (a .u .now) (a .v .now) (a .rgb-stride) (a .rgb .now) (c .before .before .before .before .before .before .before .pre) in
+    let h = accepted-call depths8 depth-of-8 (a .codes) (a .image) (a .y .now) (a .u .now) (a .v .now) (a .rgb-stride) (a .rgb .now) (c .before .before .before .before .before .before .before .pre .0) in
+    let ready = accepted-ready depths8 depth-of-8 (a .codes) (a .image) (a .y .now) (a .u .now) (a .v .now) (a .rgb-stride) (a .rgb .now) (c .before .before .before .before .before .before .before .pre .0) in
     rw (c .before .settings-kernel .ensures, c .before .before .decode .ensures)
-    ((kernel-bytes (decoded (a .codes)) (ready .weights) (h .depth), ready, low-at-8 (a .codes .depth) (a .codes .packing) (h .depth) (h .packing)), (omega arith, h .rgb-stride, h .rgb-length))
+    ((kernel-bytes (decoded (a .codes)) (ready .weights) (h .depth), ready, low-at-8 (a .codes .depth) (a .codes .packing) (h .depth) (h .packing)), (c .before .before .before .before .before .before .before .pre .1, h .rgb-stride, h .rgb-length))
 
 same-length : tie.Need-same-length
 same-length c = search needs
 
 returns : tie.Need-returns
-unfolding picture
 returns c =
     let rows = c .before .before .convert-rows .ensures in
     let settings = c .before .before .before .before .before .decode .ensures in
