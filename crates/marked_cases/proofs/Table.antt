@@ -5,11 +5,11 @@ use lib.Ieee.{ofInt, mul, sub, div, le}
 use Rattle.yuv_support.specs.Settings.{maxOf, biasY, biasC, rangeY, rangeC, unpacked, weightR, weightB, weightG, weightsOf}
 use Rattle.yuv_support.specs.Coefficients.{exactY, exactOuter, exactInner, storedOf, isStored, ratio, greenWeight, outer, inner, roundAway, integer, computedOf, coefficientsOf, customUsable, usableWith, usable}
 use Rattle.yuv_support.specs.Blend.{chromaHeight, rowsOf, placeOf, nearRow, farRow, sixteenths, chroma16}
-use Rattle.yuv_support.specs.Component.{step, sumOf, quotientOf, componentOf, quotientAt}
+use Rattle.yuv_support.specs.Component.{step, sumOf, quotientOf, componentOf, quotientAt, componentAt}
 use Rattle.yuv_support.specs.Counts.{total, countAt, clippedRow, clippedIn}
-use Rattle.yuv_support.specs.Picture.{lettersOf, channelsOf}
+use Rattle.yuv_support.specs.Picture.{lettersOf, channelsOf, valueOf, elementOf, overlay, band, bandRows}
 use Rattle.yuv_support.specs.Questions.{verdict, questionsOf, settingsQuestions}
-use Rattle.yuv_support.specs.Conversion.{answerTo, clippedAfter}
+use Rattle.yuv_support.specs.Conversion.{answerTo, clippedAfter, answerToBand, rowsAfter, destinationAfterBand}
 use Rattle.settings_used.specs.Used.{settingsUsedOf}
 use Rattle.marked_cases.specs.Marked.{Marked}
 use Rattle.marked_cases.proofs.Sheet.{marked-sheet}
@@ -19,6 +19,7 @@ unfolding maxOf biasY biasC rangeY rangeC unpacked weightR weightB weightG weigh
     exactY exactOuter exactInner storedOf isStored ratio greenWeight outer inner roundAway integer computedOf coefficientsOf customUsable usableWith usable
     chromaHeight rowsOf placeOf nearRow farRow sixteenths chroma16 step sumOf quotientOf componentOf quotientAt
     total countAt clippedRow clippedIn answerTo clippedAfter
+    componentAt valueOf elementOf overlay band bandRows answerToBand rowsAfter destinationAfterBand
     lettersOf channelsOf verdict questionsOf settingsQuestions settingsUsedOf
     ofInt mul sub div le
 marked = record {
@@ -45,4 +46,8 @@ marked = record {
   matched-tail = λ b e. (refl, refl);
   matched-smpte240 = (refl, refl);
   mode-known = (refl, refl);
+  rows-of-a-band = (refl, refl, refl, refl, refl, refl, refl);
+  no-rows-at-the-height = (refl, refl);
+  first-row = (refl, refl, refl, refl, refl);
+  last-odd-row = refl;
 }

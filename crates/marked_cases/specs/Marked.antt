@@ -24,8 +24,9 @@ use Rattle.yuv_support.specs.Settings.{depths8, biasC}
 use Rattle.yuv_support.specs.Coefficients.{coefficientsOf}
 use Rattle.yuv_support.specs.Blend.{Chroma, Cb, Cr, one, two, left, right, tail, sixteenths, rounded, chromaWidth, chromaHeight}
 use Rattle.yuv_support.specs.Component.{R, G, B, componentOf}
-use Rattle.yuv_support.specs.Questions.{Verdict, accepted, refused, verdict, Request, extent, conversionQuestions}
-use Rattle.yuv_support.specs.Conversion.{clippedAfter}
+use Rattle.yuv_support.specs.Picture.{bandRows}
+use Rattle.yuv_support.specs.Questions.{Verdict, accepted, refused, verdict, Request, extent, conversionQuestions, bandQuestions}
+use Rattle.yuv_support.specs.Conversion.{clippedAfter, destinationAfterBand}
 use Rattle.yuv_error.specs.Told.{asTold}
 use Rattle.sheet_text.specs.Sheet.{sheetOf}
 use Rattle.settings_used.specs.Used.{refusal, settingsUsedOf}
@@ -121,6 +122,10 @@ request c width height = record {
 abbrev pub verdictOn : Codes → ℕ → ℕ → Verdict
 verdictOn c width height = verdict (conversionQuestions depths8 (request c width height))
 
+-- of a band from a first row on
+abbrev pub bandOn : Codes → ℕ → ℕ → ℕ → Verdict
+bandOn c width height first = verdict (bandQuestions (conversionQuestions depths8 (request c width height)) first height)
+
 -- below and above
 abbrev pub counts : ℕ → ℕ → Clipped
 counts below above = record { below = below; above = above }
@@ -195,3 +200,20 @@ pub record Marked : Type 0 where
   pub mode-known :
       (verdictOn (codesIn 1 8 1 3 (tenths 0)) 2 2 ≡ accepted)
       × (verdictOn (codesIn 2 8 1 3 (tenths 0)) 2 2 ≡ refused 2)
+  -- slip 5: "min(limit, rows left), made even by dropping one row unless it reaches the last row"
+  pub rows-of-a-band :
+      (bandRows 7 0 1 ≡ 0) × (bandRows 7 0 3 ≡ 2) × (bandRows 7 2 4 ≡ 4) × (bandRows 7 4 3 ≡ 3) × (bandRows 7 6 1 ≡ 1) × (bandRows 8 6 1 ≡ 0)
+      × (bandRows 7 0 4294967295 ≡ 7)
+  -- "A first row equal to the height writes 0 rows"
+  pub no-rows-at-the-height : (bandRows 7 7 2 ≡ 0) × (bandRows 8 8 2 ≡ 0)
+  -- "It refuses 19 for an odd first row below the height, or one above it, after question 13; an odd height itself may be the first row"
+  pub first-row :
+      (bandOn (codes 8 1 0 (tenths 0)) 2 7 6 ≡ accepted)
+      × (bandOn (codes 8 1 0 (tenths 0)) 2 7 7 ≡ accepted)
+      × (bandOn (codes 8 1 0 (tenths 0)) 2 7 5 ≡ refused 19)
+      × (bandOn (codes 8 1 0 (tenths 0)) 2 7 8 ≡ refused 19)
+      × (bandOn (codes 8 1 6 (tenths 5)) 2 7 5 ≡ refused 13)
+  -- the last row of three, and nothing else
+  pub last-odd-row :
+      destinationAfterBand depths8 (codes 8 1 0 (tenths 0)) (image 1 3) (10 ∷ 20 ∷ 30 ∷ []) (128 ∷ 128 ∷ []) (128 ∷ 128 ∷ []) 3 (replicate 9 7) 2 2
+      ≡ 7 ∷ 7 ∷ 7 ∷ 7 ∷ 7 ∷ 7 ∷ 30 ∷ 30 ∷ 30 ∷ []

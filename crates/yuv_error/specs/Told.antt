@@ -77,7 +77,7 @@ bandNumbers v c rows next = record {
 }
 
 abbrev pub bandReported : ConvertedBand → BandReport
-bandReported b = bandNumbers (told (b .answer)) (b .clipped) (b .rows) (b .next)
+bandReported b = bandNumbers (told (b .converted .answer)) (b .converted .clipped) (b .rows) (b .next)
 
 -- the next first row is the one after the rows written
 abbrev pub asBandReport : Verdict → Clipped → ℕ → ℕ → BandReport

@@ -72,10 +72,9 @@ pub struct Report {
     pub above: u64,
 }
 
-// The answer of a band: the same, how many rows were written, and the next first row.
+// The answer of a band: that of a conversion, how many rows were written, and the next first row.
 pub struct ConvertedBand {
-    pub answer: YuvError,
-    pub clipped: Clipped,
+    pub converted: Converted,
     pub rows: u32,
     pub next: u32,
 }
@@ -165,19 +164,17 @@ pub fn report_of(c: Converted) -> Report
     }
 }
 
-// The same of a band's answer, with its rows and the next first row.
+// The same of a band's answer, then the rows written and the next first row.
 pub fn band_report_of(b: ConvertedBand) -> BandReport
     ensures { λ r. ⌜ r ≡ bandReported b ⌝ }
 {
-    let answer = b.answer;
-    let clipped = b.clipped;
-    let t = told_of(answer);
+    let r = report_of(b.converted);
     BandReport {
-        number: t.number,
-        expected: t.expected,
-        received: t.received,
-        below: clipped.below as u64,
-        above: clipped.above as u64,
+        number: r.number,
+        expected: r.expected,
+        received: r.received,
+        below: r.below,
+        above: r.above,
         rows: b.rows as u64,
         next: b.next as u64,
     }

@@ -2,6 +2,7 @@
 -- Assumes nothing.
 use borrow.Author.Needs.{needs}
 use mathlib.Core.Path.{_∙_}
+use native.Mathlib.Omega.{arith}
 use Prim.Native.Nat.{_+_, _*_, _≤_}
 use lib.ListN.{length}
 use Rattle.yuv_support.specs.Settings.{depths16}
@@ -43,7 +44,7 @@ enum-told c = search needs
 convert-rows-requires : tie.Need-convert-rows-requires
 convert-rows-requires c κs =
     let d = asked (c .before .before .before) in
-    ((d .0 .0, d .0 .1, c .before .enum-told .given .1), d .1)
+    ((d .0 .0, d .0 .1, c .before .enum-told .given .1), (omega (arith, d .1 .0), d .1 .1, d .1 .2))
 
 enum-told-2 : tie.Need-enum-told-2
 enum-told-2 c = search needs
@@ -51,7 +52,7 @@ enum-told-2 c = search needs
 convert-rows-requires-2 : tie.Need-convert-rows-requires-2
 convert-rows-requires-2 c κs =
     let d = asked (c .before .before .before) in
-    ((d .0 .0, d .0 .1, c .before .enum-told2 .given .1), d .1)
+    ((d .0 .0, d .0 .1, c .before .enum-told2 .given .1), (omega (arith, d .1 .0), d .1 .1, d .1 .2))
 
 same-length : tie.Need-same-length
 same-length c = search needs

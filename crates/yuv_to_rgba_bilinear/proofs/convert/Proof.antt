@@ -2,6 +2,7 @@
 -- Assumes nothing.
 use borrow.Author.Needs.{needs}
 use mathlib.Core.Path.{_∙_}
+use native.Mathlib.Omega.{arith}
 use Rattle.yuv_support.specs.Settings.{depths8}
 use Rattle.yuv_support.specs.Questions.{decoded}
 use Rattle.yuv_support.proofs.Packing.{low-at-8}
@@ -26,7 +27,7 @@ convert-rows-requires c κs =
     let h = accepted-call depths8 depth-of-8 (a .codes) (a .image) (a .y .now) (a .u .now) (a .v .now) (a .rgb-stride) (a .rgb .now) (c .before .before .before .before .before .before .before .pre .0) in
     let ready = accepted-ready depths8 depth-of-8 (a .codes) (a .image) (a .y .now) (a .u .now) (a .v .now) (a .rgb-stride) (a .rgb .now) (c .before .before .before .before .before .before .before .pre .0) in
     rw (c .before .settings-kernel .ensures, c .before .before .decode .ensures)
-    ((kernel-bytes (decoded (a .codes)) (ready .weights) (h .depth), ready, low-at-8 (a .codes .depth) (a .codes .packing) (h .depth) (h .packing)), (c .before .before .before .before .before .before .before .pre .1, h .rgb-stride, h .rgb-length))
+    ((kernel-bytes (decoded (a .codes)) (ready .weights) (h .depth), ready, low-at-8 (a .codes .depth) (a .codes .packing) (h .depth) (h .packing)), (omega (arith, c .before .before .before .before .before .before .before .pre .1), h .rgb-stride, h .rgb-length))
 
 same-length : tie.Need-same-length
 same-length c = search needs
