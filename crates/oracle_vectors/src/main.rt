@@ -1,4 +1,5 @@
-// Replays stored answers of the Rust through the public entries, and prints how many were compared and how many differ.
+// Replays stored answers of the Rust through the public entries, each as a whole conversion and in bands, and prints how many were compared
+// and how many differ.
 // The list is the file `stdin` beside src/: a line of column names, then a line of 36 numbers for each call. tests/oracle made it by
 // running the Rust: cargo run --offline --release --bin vectors.
 // Columns: 0 to 6 the codes; 7, 8 the bits of kr and kb; 9, 10 the sides; 11 to 14 the strides of Y, U, V and the destination; 15 to 18
@@ -10,6 +11,7 @@
 ghost use Prim.Native.Nat.{_≤_};
 use libc::STDIN_FILENO;
 use libc::STDOUT_FILENO;
+use yuv_error::BandReport;
 use yuv_error::Report;
 use yuv_support::Codes;
 use yuv_support::YuvPlanarImage;
@@ -173,12 +175,62 @@ fn is_answer(row: &[u64; 36], answer: Report, sum: u64) -> bool {
         && sum == row[27]
 }
 
-// Whether the conversion of a line has the line's answer. The buffers have the lengths that the line says.
-fn replay8(row: &[u64; 36], y: &mut [u8], u: &mut [u8], v: &mut [u8], rgb: &mut [u8]) -> bool {
+// The limit of a line's bands: 2 to 6.
+fn limit_of(row: &[u64; 36]) -> u32 {
+    narrow(row[19] % 5 + 2)
+}
+
+// The counts of the list are far below 2^32.
+fn plus(a: u64, b: u64) -> u64 {
+    a % 4294967296 + b % 4294967296
+}
+
+// The answer of some bands and of the next one: counts and rows add up.
+fn together(all: BandReport, next: BandReport) -> BandReport {
+    BandReport {
+        number: next.number,
+        expected: next.expected,
+        received: next.received,
+        below: plus(all.below, next.below),
+        above: plus(all.above, next.above),
+        rows: plus(all.rows, next.rows),
+        next: next.next,
+    }
+}
+
+// Whether all bands together have the line's answer, and reach the height where it is no refusal.
+fn is_band_answer(row: &[u64; 36], all: BandReport, sum: u64) -> bool {
+    let answer = Report {
+        number: all.number,
+        expected: all.expected,
+        received: all.received,
+        below: all.below,
+        above: all.above,
+    };
+    let reached = if all.number == 0 { row[10] } else { 0 };
+    is_answer(row, answer, sum) && all.rows == reached && all.next == reached
+}
+
+// Whether a band from row 1 on has number 19, or the line's where that is a refusal or 1 is the height.
+fn is_odd_answer(row: &[u64; 36], odd: BandReport) -> bool {
+    let number = if row[22] == 0 && row[10] != 1 {
+        19
+    } else {
+        row[22]
+    };
+    odd.number == number && odd.rows == 0 && odd.next == 1
+}
+
+// Fills the four buffers of a line.
+fn filled8(row: &[u64; 36], y: &mut [u8], u: &mut [u8], v: &mut [u8], rgb: &mut [u8]) {
     let after_y = fill8(y, row[19], row[20], row[21]);
     let after_u = fill8(u, after_y, row[20], row[21]);
     let after_v = fill8(v, after_u, row[20], row[21]);
     fill8(rgb, after_v, 255, 0);
+}
+
+// Whether the conversion of a line has the line's answer.
+fn whole8(row: &[u64; 36], y: &[u8], u: &[u8], v: &[u8], rgb: &mut [u8]) -> bool {
     let answer = yuv_to_rgba_bilinear::yuv_to_rgbx_bilinear(
         codes_of(row),
         image_of(row),
@@ -191,11 +243,51 @@ fn replay8(row: &[u64; 36], y: &mut [u8], u: &mut [u8], v: &mut [u8], rgb: &mut 
     is_answer(row, yuv_error::report_of(answer), sum8(rgb))
 }
 
-fn replay16(row: &[u64; 36], y: &mut [u16], u: &mut [u16], v: &mut [u16], rgb: &mut [u16]) -> bool {
+// The band of a line from a first row on.
+fn band8(row: &[u64; 36], y: &[u8], u: &[u8], v: &[u8], rgb: &mut [u8], first: u32) -> BandReport {
+    let band = yuv_to_rgba_bilinear::yuv_to_rgbx_band(
+        codes_of(row),
+        image_of(row),
+        y,
+        u,
+        v,
+        rgb,
+        narrow(row[14]),
+        first,
+        limit_of(row),
+    );
+    yuv_error::band_report_of(band)
+}
+
+// What the bands of a line answer together, from row 0 on. There is a call more than is needed, at the height.
+fn in_bands8(row: &[u64; 36], y: &[u8], u: &[u8], v: &[u8], rgb: &mut [u8]) -> BandReport {
+    let most = narrow(row[10]) / 2 + 1;
+    let mut all = band8(row, y, u, v, rgb, 0);
+    let mut calls: u32 = 0;
+    while calls < most {
+        all = together(all, band8(row, y, u, v, rgb, narrow(all.next)));
+        calls += 1;
+    }
+    all
+}
+
+// Whether the bands of a line have the line's answer, and one from row 1 on is refused.
+fn bands8(row: &[u64; 36], y: &[u8], u: &[u8], v: &[u8], rgb: &mut [u8]) -> bool {
+    let odd = band8(row, y, u, v, rgb, 1);
+    let all = in_bands8(row, y, u, v, rgb);
+    is_odd_answer(row, odd) && is_band_answer(row, all, sum8(rgb))
+}
+
+// Fills the four buffers of a line.
+fn filled16(row: &[u64; 36], y: &mut [u16], u: &mut [u16], v: &mut [u16], rgb: &mut [u16]) {
     let after_y = fill16(y, row[19], row[20], row[21]);
     let after_u = fill16(u, after_y, row[20], row[21]);
     let after_v = fill16(v, after_u, row[20], row[21]);
     fill16(rgb, after_v, 65535, 0);
+}
+
+// Whether the conversion of a line has the line's answer.
+fn whole16(row: &[u64; 36], y: &[u16], u: &[u16], v: &[u16], rgb: &mut [u16]) -> bool {
     let answer = yuv_p16_to_rgba16_bilinear::yuv16_to_rgbx_bilinear(
         codes_of(row),
         image_of(row),
@@ -206,6 +298,66 @@ fn replay16(row: &[u64; 36], y: &mut [u16], u: &mut [u16], v: &mut [u16], rgb: &
         narrow(row[14]),
     );
     is_answer(row, yuv_error::report_of(answer), sum16(rgb))
+}
+
+// The band of a line from a first row on.
+fn band16(
+    row: &[u64; 36],
+    y: &[u16],
+    u: &[u16],
+    v: &[u16],
+    rgb: &mut [u16],
+    first: u32,
+) -> BandReport {
+    let band = yuv_p16_to_rgba16_bilinear::yuv16_to_rgbx_band(
+        codes_of(row),
+        image_of(row),
+        y,
+        u,
+        v,
+        rgb,
+        narrow(row[14]),
+        first,
+        limit_of(row),
+    );
+    yuv_error::band_report_of(band)
+}
+
+// What the bands of a line answer together, from row 0 on. There is a call more than is needed, at the height.
+fn in_bands16(row: &[u64; 36], y: &[u16], u: &[u16], v: &[u16], rgb: &mut [u16]) -> BandReport {
+    let most = narrow(row[10]) / 2 + 1;
+    let mut all = band16(row, y, u, v, rgb, 0);
+    let mut calls: u32 = 0;
+    while calls < most {
+        all = together(all, band16(row, y, u, v, rgb, narrow(all.next)));
+        calls += 1;
+    }
+    all
+}
+
+// Whether the bands of a line have the line's answer, and one from row 1 on is refused.
+fn bands16(row: &[u64; 36], y: &[u16], u: &[u16], v: &[u16], rgb: &mut [u16]) -> bool {
+    let odd = band16(row, y, u, v, rgb, 1);
+    let all = in_bands16(row, y, u, v, rgb);
+    is_odd_answer(row, odd) && is_band_answer(row, all, sum16(rgb))
+}
+
+// Whether a line's answer is that of the whole conversion and of its bands. The buffers have the lengths that the line says.
+fn replay8(row: &[u64; 36], y: &mut [u8], u: &mut [u8], v: &mut [u8], rgb: &mut [u8]) -> bool {
+    filled8(row, y, u, v, rgb);
+    let whole = whole8(row, y, u, v, rgb);
+    filled8(row, y, u, v, rgb);
+    let bands = bands8(row, y, u, v, rgb);
+    whole && bands
+}
+
+// Whether a line's answer is that of the whole conversion and of its bands. The buffers have the lengths that the line says.
+fn replay16(row: &[u64; 36], y: &mut [u16], u: &mut [u16], v: &mut [u16], rgb: &mut [u16]) -> bool {
+    filled16(row, y, u, v, rgb);
+    let whole = whole16(row, y, u, v, rgb);
+    filled16(row, y, u, v, rgb);
+    let bands = bands16(row, y, u, v, rgb);
+    whole && bands
 }
 
 // The same, with room for the four buffers.
@@ -291,7 +443,7 @@ fn replay_all(list: &[u8]) {
     }
     io::write_all(STDOUT_FILENO, b"answers: ");
     io::print_decimal(STDOUT_FILENO, compared);
-    io::write_all(STDOUT_FILENO, b" compared, ");
+    io::write_all(STDOUT_FILENO, b" compared whole and in bands, ");
     io::print_decimal(STDOUT_FILENO, differing);
     io::write_all(STDOUT_FILENO, b" different\n");
 }
