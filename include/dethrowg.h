@@ -21,9 +21,9 @@
  * functions may run in several threads at once, also on the same planes, as long as no one writes
  * to a buffer of a call that runs.
  *
- * Stack. A conversion of uint16_t planes takes about 100 KiB of the calling thread's stack, in
- * either packing (a thread of 112 KiB that does nothing else is enough); every other function takes
- * less than 16 KiB. No memory is allocated.
+ * Stack. A conversion of uint16_t planes, whole or of a band, takes about 100 KiB of the calling
+ * thread's stack, in either packing (a thread of 112 KiB that does nothing else is enough); every
+ * other function takes less than 16 KiB. No memory is allocated.
  *
  * Bounds. Proved in both modes for BT.601, BT.709 and BT.2020 (matrices 0 to 2): each component is
  * less than 8/5 codes (8 bits), 17/10 (10 bits) or 2 (12 bits) from the standard's exact equation,
@@ -140,7 +140,9 @@ enum dethrowg_number {
     DETHROWG_WEIGHTS_UNUSABLE = 13,    /* custom weights: are both from 0 to 1, is (1 - kr) - kb in
                                           float above 0, and are the two green coefficients together
                                           at most 32767? */
-    DETHROWG_NO_SUCH_ROW = 14          /* is the row below the height? */
+    DETHROWG_NO_SUCH_ROW = 14,         /* is the row below the height? */
+    DETHROWG_FIRST_ROW_UNUSABLE = 19   /* bands: is the first row even and below the height, or the
+                                          height itself? */
 };
 
 /* expected and received are the two values in parentheses above, else 0. Needed is
@@ -153,6 +155,13 @@ enum dethrowg_number {
 typedef struct {
     uint64_t number, expected, received, below, above;
 } dethrowg_answer;
+
+/* The answer to a call for a band: as above, with below and above of the rows written, then how many
+ * rows were written and the first row of the next call. Where number is not 0 the rows are 0, and next
+ * is the first row that the call was given. */
+typedef struct {
+    uint64_t number, expected, received, below, above, rows, next;
+} dethrowg_band;
 
 /* The settings that a conversion uses: the largest sample of the depth, the biases, and the
  * coefficients in units of 1/8192; g1 and g2 are what green takes off for Cr and for Cb. All 0
@@ -185,6 +194,29 @@ dethrowg_answer dethrowg_yuv16_to_rgb(
     dethrowg_codes codes, dethrowg_image image,
     const uint16_t *y, size_t y_len, const uint16_t *u, size_t u_len,
     const uint16_t *v, size_t v_len, uint16_t *rgb, size_t rgb_len, uint32_t rgb_stride);
+
+/* Converts a band: some rows of a picture from row `first` on, so that a host can show how far it is.
+ * The buffers are those of the whole picture. Asks 1 to 13 as for the whole picture, then 19. A refused
+ * call changes nothing. An accepted one writes limit rows, or those left where they are fewer, made
+ * even by dropping one unless they reach the last row. They come out as in the whole picture; all of
+ * the destination outside their pixels is kept. At first = height that is 0 rows.
+ *
+ * A host starts at row 0, calls again with first = b.next, and is done where b.next == image.height.
+ * With limits of 2 or more that takes at most ceil(height/2) calls, and if no one else writes between
+ * them the destination is then that of one whole conversion, whose counts are the sums of the bands'.
+ * A limit of 0 or 1 may write nothing, so a loop must not use it. */
+dethrowg_band dethrowg_yuv8_to_rgb_band(
+    dethrowg_codes codes, dethrowg_image image,
+    const uint8_t *y, size_t y_len, const uint8_t *u, size_t u_len,
+    const uint8_t *v, size_t v_len, uint8_t *rgb, size_t rgb_len, uint32_t rgb_stride,
+    uint32_t first, uint32_t limit);
+
+/* The same for depths 10 and 12. */
+dethrowg_band dethrowg_yuv16_to_rgb_band(
+    dethrowg_codes codes, dethrowg_image image,
+    const uint16_t *y, size_t y_len, const uint16_t *u, size_t u_len,
+    const uint16_t *v, size_t v_len, uint16_t *rgb, size_t rgb_len, uint32_t rgb_stride,
+    uint32_t first, uint32_t limit);
 
 /* A finished row of a destination, width * channels long. Asks 2 (the order), 3 to 6 and 14. */
 dethrowg_part dethrowg_row8(
