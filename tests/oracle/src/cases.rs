@@ -78,6 +78,9 @@ pub fn planes<T: Element>(random: &mut Random, kind: Samples, q: &Request) -> Pl
     })
 }
 
+/// Elements before and after a destination, which a conversion is not given.
+pub const GUARD: usize = 16;
+
 /// How far a stride and a length lie above their limits.
 pub type Slack = (i64, i64);
 
@@ -104,6 +107,66 @@ pub fn request(codes: Codes, width: u32, height: u32, slack: [Slack; 4]) -> Requ
     }
 }
 
+/// Strides and lengths somewhat above their limits.
+pub fn spare(random: &mut Random) -> [Slack; 4] {
+    [(); 4].map(|_| (random.below(6).into(), random.below(30).into()))
+}
+
+/// Stride and length of each of the four buffers one below, at and one above the limit, all together.
+pub fn around_limits() -> impl Iterator<Item = [Slack; 4]> {
+    (0..6561).map(|n| {
+        let digit = |place: u32| i64::from(n / 3u32.pow(place) % 3) - 1;
+        [0, 2, 4, 6].map(|place| (digit(place), digit(place + 1)))
+    })
+}
+
+/// Sides up to 200, mostly small, with slack; a fifth have a buffer below or far above a limit.
+pub fn mostly_small(random: &mut Random) -> ((u32, u32), [Slack; 4]) {
+    let most = random.pick(&[4, 9, 9, 17, 17, 17, 33, 33, 64, 200]);
+    let sides = (random.between(1, most), random.between(1, most));
+    let mut slack = spare(random);
+    if random.below(5) == 0 {
+        slack[random.below(4) as usize].0 = i64::from(random.below(40)) - 3;
+        slack[random.below(4) as usize].1 = i64::from(random.below(900)) - 30;
+    }
+    (sides, slack)
+}
+
+/// The request with a few elements in place of buffers longer than `most`.
+pub fn tiny(random: &mut Random, most: usize, mut q: Request) -> Request {
+    for extent in [&mut q.y, &mut q.u, &mut q.v, &mut q.rgb] {
+        if extent.len > most {
+            extent.len = random.below(20) as usize;
+        }
+    }
+    q
+}
+
+/// Sides around 0 and 16,384.
+pub const SIDES: [u32; 10] = [0, 1, 2, 3, 16383, 16384, 16385, 65536, 1 << 31, u32::MAX];
+
+/// A request of such sides, with strides that fit or, if asked for, some that do not, up to the
+/// largest.
+pub fn around_sides(
+    random: &mut Random, codes: Codes, (width, height): (u32, u32), some_strange: bool,
+) -> Request {
+    let side = |side: u32| side.min(16385);
+    let tight = request(codes, side(width), side(height), TIGHT);
+    let mut q = tiny(random, 300_000, Request { width, height, ..tight });
+    for extent in [&mut q.y, &mut q.u, &mut q.v, &mut q.rgb] {
+        if some_strange && random.below(4) == 0 {
+            *extent = strange(random, *extent);
+        }
+    }
+    q
+}
+
+fn strange(random: &mut Random, extent: Extent) -> Extent {
+    let len = random.pick(&[0, 1, extent.len / 2, extent.len, extent.len + 100]);
+    let stride = random.pick(&[0, 1, extent.stride, 1 << 31, u32::MAX]);
+    Extent { len, stride }
+}
+
 /// The packings that are known at a depth.
 pub fn packings(depth: u32) -> &'static [u32] {
     if depth == 8 {
@@ -120,6 +183,28 @@ pub fn codes<T: Element>(random: &mut Random) -> Codes {
     let (sampling, order, matrix) = (random.below(2), random.below(4), random.below(7));
     let packing = random.pick(packings(depth));
     Codes { depth, sampling, order, range, matrix, packing, mode: 0, kr, kb }
+}
+
+/// The codes, with a named matrix in place of Custom weights that question 13 refuses.
+pub fn usable(codes: Codes) -> Codes {
+    let usable = model::usable(codes.depth, codes.range, codes.kr, codes.kb);
+    let matrix = if usable { codes.matrix } else { codes.matrix % 6 };
+    Codes { matrix, ..codes }
+}
+
+/// Every setting of a packing and a mode, with two pairs of Custom weights, one of them refused.
+pub fn every_setting<T: Element>(packing: u32, mode: u32) -> Vec<Codes> {
+    let matrices = (0..6).map(|matrix| (matrix, 0.0, 0.0)).chain([(6, 0.35, 0.05), (6, 0.5, 0.5)]);
+    let mut all = Vec::new();
+    for (matrix, kr, kb) in matrices {
+        for n in 0..16 {
+            let (sampling, order, range) = (n % 2, n / 2 % 4, n / 8);
+            for &depth in T::DEPTHS {
+                all.push(Codes { depth, sampling, order, range, matrix, packing, mode, kr, kb });
+            }
+        }
+    }
+    all
 }
 
 const DEPTHS: [u32; 15] = [0, 1, 7, 8, 9, 10, 11, 12, 13, 14, 16, 32, 264, 266, u32::MAX];

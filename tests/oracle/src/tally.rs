@@ -1,11 +1,13 @@
 //! Counts of what was compared, and the smallest inputs that differ.
+use crate::cases::{Element, GUARD};
+use crate::Planes;
 use std::collections::BTreeMap;
 use std::process::ExitCode;
 
 #[derive(Default)]
 pub struct Tally {
     pub calls: u64,
-    by_number: [u64; 16],
+    by_number: [u64; 20],
     alone: BTreeMap<&'static str, u64>,
     different: u64,
     smallest: Vec<(usize, String)>,
@@ -59,4 +61,30 @@ impl Tally {
 /// A success where nothing differed.
 pub fn status(same: bool) -> ExitCode {
     ExitCode::from(u8::from(!same))
+}
+
+/// The samples of small planes, and which planes were written to.
+pub fn samples_of<T: Element>(planes: &Planes<T>, lent: &Planes<T>) -> String {
+    let mut text = String::new();
+    for (name, (before, after)) in ["Y", "U", "V"].iter().zip(planes.iter().zip(lent)) {
+        if before.len() <= 100 {
+            text += &format!("  {name} {before:?}\n");
+        }
+        if before != after {
+            text += &format!("  {name} was written to\n");
+        }
+    }
+    text
+}
+
+/// The destination's elements that differ; places before and after it are outside the buffer.
+pub fn differing<T: Element>(before: &[T], ours: &[T], wanted: &[T]) -> String {
+    let places: Vec<usize> = (0..before.len()).filter(|i| ours[*i] != wanted[*i]).collect();
+    let mut text = format!("  destination elements that differ: {}\n", places.len());
+    for i in places.into_iter().take(5) {
+        let place = i as i64 - GUARD as i64;
+        let (before, ours, wanted) = (before[i], ours[i], wanted[i]);
+        text += &format!("    at {place}: before {before:?}, ours {ours:?}, wanted {wanted:?}\n");
+    }
+    text
 }

@@ -5,16 +5,14 @@
 //! random pictures for each element width and packing (in matched mode three fifths of it), and a
 //! seed.
 use oracle::cases::{
-    codes, elements, every_code, planes, request, Samples, Slack, MODES, SAMPLES, TIGHT,
+    around_limits, around_sides, codes, elements, every_code, every_setting, mostly_small, planes,
+    request, spare, tiny, usable, Samples, GUARD, MODES, SAMPLES, SIDES, TIGHT,
 };
 use oracle::library::Convert;
-use oracle::tally::{status, Tally};
+use oracle::tally::{differing, samples_of, status, Tally};
 use oracle::{model, random::Random, reading, reference};
-use oracle::{Answer, Codes, Extent, Planes, Request};
+use oracle::{Answer, Codes, Planes, Request};
 use std::process::ExitCode;
-
-/// Elements before and after the destination, which a conversion is not given.
-const GUARD: usize = 16;
 
 fn main() -> ExitCode {
     let mut arguments = std::env::args().skip(1).map(|text| text.parse().expect("a number"));
@@ -239,46 +237,6 @@ fn compare_planes<T: Convert>(run: &mut Run, q: Request, planes: &Planes<T>) {
     });
 }
 
-fn samples_of<T: Convert>(planes: &Planes<T>, lent: &Planes<T>) -> String {
-    let mut text = String::new();
-    for (name, (before, after)) in ["Y", "U", "V"].iter().zip(planes.iter().zip(lent)) {
-        if before.len() <= 100 {
-            text += &format!("  {name} {before:?}\n");
-        }
-        if before != after {
-            text += &format!("  {name} was written to\n");
-        }
-    }
-    text
-}
-
-/// The destination's elements that differ; places before and after it are outside the buffer.
-fn differing<T: Convert>(before: &[T], ours: &[T], wanted: &[T]) -> String {
-    let places: Vec<usize> = (0..before.len()).filter(|i| ours[*i] != wanted[*i]).collect();
-    let mut text = format!("  destination elements that differ: {}\n", places.len());
-    for i in places.into_iter().take(5) {
-        let place = i as i64 - GUARD as i64;
-        let (before, ours, wanted) = (before[i], ours[i], wanted[i]);
-        text += &format!("    at {place}: before {before:?}, ours {ours:?}, wanted {wanted:?}\n");
-    }
-    text
-}
-
-/// Every setting of a packing and a mode, with two pairs of Custom weights, one of them refused.
-fn every_setting<T: Convert>(packing: u32, mode: u32) -> Vec<Codes> {
-    let matrices = (0..6).map(|matrix| (matrix, 0.0, 0.0)).chain([(6, 0.35, 0.05), (6, 0.5, 0.5)]);
-    let mut all = Vec::new();
-    for (matrix, kr, kb) in matrices {
-        for n in 0..16 {
-            let (sampling, order, range) = (n % 2, n / 2 % 4, n / 8);
-            for &depth in T::DEPTHS {
-                all.push(Codes { depth, sampling, order, range, matrix, packing, mode, kr, kb });
-            }
-        }
-    }
-    all
-}
-
 fn small<T: Convert>(run: &mut Run) {
     let settings = every_setting::<T>(run.packing, run.mode);
     for (width, height) in (0..81).map(|n| (n % 9 + 1, n / 9 + 1)) {
@@ -292,17 +250,9 @@ fn small<T: Convert>(run: &mut Run) {
     }
 }
 
-/// Strides and lengths somewhat above their limits.
-fn spare(random: &mut Random) -> [Slack; 4] {
-    [(); 4].map(|_| (random.below(6).into(), random.below(30).into()))
-}
-
-/// Stride and length of each of the four buffers one below, at and one above the limit, all together.
 fn limits<T: Convert>(run: &mut Run) {
     for (width, height) in [(1, 1), (2, 1), (1, 2), (2, 2), (3, 3), (4, 3)] {
-        for n in 0..6561 {
-            let digit = |place: u32| i64::from(n / 3u32.pow(place) % 3) - 1;
-            let slack = [0, 2, 4, 6].map(|place| (digit(place), digit(place + 1)));
+        for slack in around_limits() {
             for (sampling, order) in [(0, 0), (0, 1), (1, 2), (1, 3)] {
                 let codes = Codes { sampling, order, ..run.codes::<T>() };
                 compare::<T>(run, Samples::Any, request(codes, width, height, slack));
@@ -334,53 +284,20 @@ fn combinations<T: Convert>(run: &mut Run, modes: &[u32], width: u32, height: u3
     }
 }
 
-/// The request with a few elements in place of buffers longer than `most`.
-fn tiny(random: &mut Random, most: usize, mut q: Request) -> Request {
-    for extent in [&mut q.y, &mut q.u, &mut q.v, &mut q.rgb] {
-        if extent.len > most {
-            extent.len = random.below(20) as usize;
-        }
-    }
-    q
-}
-
-/// Sides around 0 and 16,384, with strides that fit and strides that do not, up to the largest.
 fn large<T: Convert>(run: &mut Run) {
-    const SIDES: [u32; 10] = [0, 1, 2, 3, 16383, 16384, 16385, 65536, 1 << 31, u32::MAX];
-    for (width, height) in SIDES.iter().flat_map(|w| SIDES.map(|h| (*w, h))) {
+    for sides in SIDES.iter().flat_map(|w| SIDES.map(|h| (*w, h))) {
         for turn in 0..40 {
             let codes = run.codes::<T>();
-            let side = |side: u32| side.min(16385);
-            let tight = request(codes, side(width), side(height), TIGHT);
-            let mut q = tiny(&mut run.random, 300_000, Request { width, height, ..tight });
-            for extent in [&mut q.y, &mut q.u, &mut q.v, &mut q.rgb] {
-                if turn > 0 && run.random.below(4) == 0 {
-                    *extent = strange(&mut run.random, *extent);
-                }
-            }
+            let q = around_sides(&mut run.random, codes, sides, turn > 0);
             compare::<T>(run, Samples::Any, q);
         }
     }
 }
 
-fn strange(random: &mut Random, extent: Extent) -> Extent {
-    let len = random.pick(&[0, 1, extent.len / 2, extent.len, extent.len + 100]);
-    let stride = random.pick(&[0, 1, extent.stride, 1 << 31, u32::MAX]);
-    Extent { len, stride }
-}
-
-/// Sides up to 200, mostly small; a fifth have a buffer below or far above a limit.
 fn various<T: Convert>(run: &mut Run) {
     for _ in 0..run.pictures {
-        let random = &mut run.random;
-        let most = random.pick(&[4, 9, 9, 17, 17, 17, 33, 33, 64, 200]);
-        let (width, height) = (random.between(1, most), random.between(1, most));
-        let mut slack = spare(random);
-        if random.below(5) == 0 {
-            slack[random.below(4) as usize].0 = i64::from(random.below(40)) - 3;
-            slack[random.below(4) as usize].1 = i64::from(random.below(900)) - 30;
-        }
-        let (kind, codes) = (random.pick(&SAMPLES), run.codes::<T>());
+        let ((width, height), slack) = mostly_small(&mut run.random);
+        let (kind, codes) = (run.random.pick(&SAMPLES), run.codes::<T>());
         compare::<T>(run, kind, request(codes, width, height, slack));
     }
 }
@@ -393,10 +310,7 @@ fn widths<T: Convert>(run: &mut Run) {
     let kinds = [&SAMPLES[..], &[Samples::Mixed]].concat();
     for (width, n) in (1..=1200).flat_map(|width| (0..8).map(move |n| (width, n))) {
         for kind in &kinds {
-            let drawn = run.codes::<T>();
-            let usable = model::usable(drawn.depth, drawn.range, drawn.kr, drawn.kb);
-            let matrix = if usable { drawn.matrix } else { drawn.matrix % 6 };
-            let codes = Codes { sampling: n % 2, order: n / 2, matrix, ..drawn };
+            let codes = Codes { sampling: n % 2, order: n / 2, ..usable(run.codes::<T>()) };
             let random = &mut run.random;
             let slack = if random.below(2) == 0 { TIGHT } else { spare(random) };
             let height = random.between(1, 4);
