@@ -112,12 +112,26 @@ pub fn spare(random: &mut Random) -> [Slack; 4] {
     [(); 4].map(|_| (random.below(6).into(), random.below(30).into()))
 }
 
+/// Strides and lengths at their limits or somewhat above.
+pub fn tight_or_spare(random: &mut Random) -> [Slack; 4] {
+    if random.below(2) == 0 {
+        TIGHT
+    } else {
+        spare(random)
+    }
+}
+
 /// Stride and length of each of the four buffers one below, at and one above the limit, all together.
 pub fn around_limits() -> impl Iterator<Item = [Slack; 4]> {
     (0..6561).map(|n| {
         let digit = |place: u32| i64::from(n / 3u32.pow(place) % 3) - 1;
         [0, 2, 4, 6].map(|place| (digit(place), digit(place + 1)))
     })
+}
+
+/// Sides from 1 to 9.
+pub fn small_sides() -> impl Iterator<Item = (u32, u32)> {
+    (0..81).map(|n| (n % 9 + 1, n / 9 + 1))
 }
 
 /// Sides up to 200, mostly small, with slack; a fifth have a buffer below or far above a limit.

@@ -1,7 +1,7 @@
 //! Compares the proved library with the scalar Rust of yuvutils-rs, with document 01's questions and,
-//! where the Rust has nothing to compare, with a second reading of the documents: matched mode, and
-//! what was clipped. The settings `packing` and `mode` and the counts `below` and `above` are those of
-//! document 02, slips 1, 4 and 3.
+//! where the Rust has nothing to compare, with a second reading of the documents: matched mode, what
+//! was clipped, and bands. The settings `packing` and `mode`, the counts `below` and `above` and bands
+//! are those of document 02, slips 1, 4, 3 and 5.
 
 pub mod cases;
 pub mod library;
@@ -37,6 +37,27 @@ impl Answer {
     pub fn with(self, Clipped { below, above }: Clipped) -> Answer {
         Answer { below, above, ..self }
     }
+
+    pub fn clipped(self) -> Clipped {
+        Clipped { below: self.below, above: self.above }
+    }
+}
+
+impl std::ops::AddAssign for Clipped {
+    fn add_assign(&mut self, other: Clipped) {
+        self.below += other.below;
+        self.above += other.above;
+    }
+}
+
+/// What a call for a band answers: as a conversion, of the rows written; how many these are; and the
+/// first row of the next call.
+#[repr(C)]
+#[derive(Clone, Copy, Debug, Default, PartialEq, Eq)]
+pub struct Band {
+    pub answer: Answer,
+    pub rows: u64,
+    pub next: u64,
 }
 
 /// The settings that a conversion uses; all 0 beside a number other than 0.

@@ -1,4 +1,6 @@
 //! The exports of the proved library (include/dethrowg.h), behind safe functions.
+#[cfg(feature = "bands")]
+use crate::Band;
 #[cfg(feature = "level_c")]
 use crate::Part;
 #[cfg(feature = "level_a")]
@@ -39,9 +41,21 @@ pub trait Convert: crate::cases::Element {
     fn convert(request: &Request, planes: &mut Planes<Self>, rgb: &mut [Self]) -> Answer;
 }
 
+/// Element widths of which the library converts bands.
+#[cfg(feature = "bands")]
+pub trait ConvertBand: Convert {
+    /// Of the request's picture, at most `limit` rows from row `first` on; buffers as above.
+    fn convert_band(
+        request: &Request, planes: &mut Planes<Self>, rgb: &mut [Self], first: u32, limit: u32,
+    ) -> Band;
+}
+
 #[rustfmt::skip]
 macro_rules! conversion {
-    ($level:literal, $element:ty, $export:ident) => {
+    (
+        $level:literal, $element:ty, $export:ident, $trait:ident::$method:ident -> $answer:ident
+        $(, $row:ident)*
+    ) => {
         #[cfg(feature = $level)]
         extern "C" {
             fn $export(
@@ -49,13 +63,15 @@ macro_rules! conversion {
                 y: *const $element, y_len: usize,
                 u: *const $element, u_len: usize,
                 v: *const $element, v_len: usize,
-                rgb: *mut $element, rgb_len: usize, rgb_stride: u32,
-            ) -> Answer;
+                rgb: *mut $element, rgb_len: usize, rgb_stride: u32, $($row: u32),*
+            ) -> $answer;
         }
 
         #[cfg(feature = $level)]
-        impl Convert for $element {
-            fn convert(q: &Request, planes: &mut Planes<Self>, rgb: &mut [Self]) -> Answer {
+        impl $trait for $element {
+            fn $method(
+                q: &Request, planes: &mut Planes<Self>, rgb: &mut [Self], $($row: u32),*
+            ) -> $answer {
                 let [y, u, v] = planes;
                 let lengths = [y.len(), u.len(), v.len(), rgb.len()];
                 assert_eq!([q.y.len, q.u.len, q.v.len, q.rgb.len], lengths);
@@ -65,7 +81,7 @@ macro_rules! conversion {
                         y.as_mut_ptr(), y.len(),
                         u.as_mut_ptr(), u.len(),
                         v.as_mut_ptr(), v.len(),
-                        rgb.as_mut_ptr(), rgb.len(), q.rgb.stride,
+                        rgb.as_mut_ptr(), rgb.len(), q.rgb.stride, $($row),*
                     )
                 }
             }
@@ -73,8 +89,14 @@ macro_rules! conversion {
     };
 }
 
-conversion!("level_a", u8, dethrowg_yuv8_to_rgb);
-conversion!("level_b", u16, dethrowg_yuv16_to_rgb);
+conversion!("level_a", u8, dethrowg_yuv8_to_rgb, Convert::convert -> Answer);
+conversion!("level_b", u16, dethrowg_yuv16_to_rgb, Convert::convert -> Answer);
+conversion!(
+    "bands", u8, dethrowg_yuv8_to_rgb_band, ConvertBand::convert_band -> Band, first, limit
+);
+conversion!(
+    "bands", u16, dethrowg_yuv16_to_rgb_band, ConvertBand::convert_band -> Band, first, limit
+);
 
 /// Element widths whose rows the library hands back.
 #[cfg(feature = "level_c")]

@@ -1,7 +1,7 @@
-//! Document 01's questions 1 to 14, with the packing and the mode of document 02's slips 1 and 4,
-//! written from their text. The Rust has no number for 1, 2, 4, 13 and 14; for the others this is a
-//! second opinion.
-use crate::{Answer, Codes, Extent, Part, Request, SettingsUsed};
+//! Document 01's questions 1 to 14, with the packing and the mode of document 02's slips 1 and 4, and
+//! question 19 with the rows of a band of slip 5, written from their text. The Rust has no number for
+//! 1, 2, 4, 13, 14 and 19 and no bands; for the others this is a second opinion.
+use crate::{Answer, Band, Codes, Extent, Part, Request, SettingsUsed};
 
 type Asked = Result<(), Answer>;
 
@@ -32,6 +32,34 @@ fn conversion_asked(bits: u32, q: &Request) -> Asked {
     plane(9, q.u, width, height)?;
     plane(11, q.v, width, height)?;
     weights(&q.codes)
+}
+
+/// A band: questions 1 to 13, then 19, how many rows are written, and the next first row; no counts.
+pub fn band(bits: u32, q: &Request, first: u32, limit: u32) -> Band {
+    let asked = conversion_asked(bits, q).and_then(|_| first_row(q.height, first));
+    let rows = if asked.is_ok() { band_rows(q.height, first, limit) } else { 0 };
+    Band { answer: answer(asked), rows: rows.into(), next: (first + rows).into() }
+}
+
+/// Question 19.
+fn first_row(height: u32, first: u32) -> Asked {
+    ask(19, !first_row_refused(height, first), 0, 0)
+}
+
+/// Whether a first row is odd and below the height, or above it.
+pub fn first_row_refused(height: u32, first: u32) -> bool {
+    first % 2 == 1 && first < height || first > height
+}
+
+/// The smaller of the limit and the rows left, made even by dropping one row unless it reaches the
+/// last row.
+fn band_rows(height: u32, first: u32, limit: u32) -> u32 {
+    let rows = limit.min(height - first);
+    if rows % 2 == 1 && first + rows != height {
+        rows - 1
+    } else {
+        rows
+    }
 }
 
 /// Questions 1 and 2, where `depths` are known.

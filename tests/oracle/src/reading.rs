@@ -3,6 +3,7 @@
 //! matched mode leaves as they are, come from the Rust.
 use crate::cases::Element;
 use crate::{model, reference, Clipped, Codes, Planes, Request, SettingsUsed};
+use std::ops::Range;
 
 /// The settings that a conversion uses, of codes that no question refuses.
 pub fn settings(codes: &Codes) -> SettingsUsed {
@@ -52,12 +53,19 @@ const LETTERS: [&[usize]; 4] = [&[0, 1, 2], &[0, 1, 2, 3], &[2, 1, 0, 3], &[2, 1
 /// is how many of its colour components had a quotient, rounded down and not yet clamped, below 0 and
 /// above M.
 pub fn convert<T: Element>(q: &Request, planes: &Planes<T>, rgb: &mut [T]) -> Clipped {
+    convert_rows(q, planes, rgb, 0..q.height)
+}
+
+/// The same of some rows of the picture.
+pub fn convert_rows<T: Element>(
+    q: &Request, planes: &Planes<T>, rgb: &mut [T], rows: Range<u32>,
+) -> Clipped {
     let s = settings(&q.codes);
     let [max, bias_y, bias_c] = [s.max, s.bias_y, s.bias_uv].map(i64::from);
     let [y_coef, cr_coef, cb_coef, g1, g2] = [s.y, s.cr, s.cb, s.g1, s.g2].map(i64::from);
     let letters = LETTERS[q.codes.order as usize];
     let mut clipped = Clipped::default();
-    for (r, c) in (0..q.height).flat_map(|r| (0..q.width).map(move |c| (r, c))) {
+    for (r, c) in rows.flat_map(|r| (0..q.width).map(move |c| (r, c))) {
         let luma = y_coef * (sample(q, &planes[0], q.y.stride, r, c) - bias_y);
         let cb = chroma(q, Chroma::Cb, &planes[1], q.u.stride, r, c) - bias_c;
         let cr = chroma(q, Chroma::Cr, &planes[2], q.v.stride, r, c) - bias_c;

@@ -1,6 +1,8 @@
 //! Times frames against the scalar Rust: one thread, in turns, pixels and counts compared.
 use crate::cases::{planes, request, Samples, TIGHT};
 use crate::library::Convert;
+#[cfg(feature = "bands")]
+use crate::{library::ConvertBand, Clipped};
 use crate::{random::Random, reading, reference, Answer, Codes, Planes, Request};
 use std::hint::black_box;
 use std::time::Instant;
@@ -102,6 +104,34 @@ impl<T: Convert> Frame<T> {
     }
 }
 
+#[cfg(feature = "bands")]
+impl<T: ConvertBand> Frame<T> {
+    /// Converts in bands of at most `limit` rows, up to the last row or to a call that writes none. The
+    /// answer has the counts of all.
+    fn convert_bands(&mut self, limit: u32) {
+        let (mut first, mut clipped) = (0, Clipped::default());
+        self.answer = loop {
+            let (q, planes) = (black_box(&self.request), &mut self.planes);
+            let band = black_box(T::convert_band(q, planes, &mut self.ours, first, limit));
+            clipped += band.answer.clipped();
+            first = band.next as u32;
+            if band.rows == 0 || first >= self.request.height {
+                break band.answer.with(clipped);
+            }
+        };
+    }
+
+    /// Whether both ways to convert, each on a destination of 0s, leave the pixels and the counts.
+    fn same_in_bands(&mut self, limit: u32) -> bool {
+        let mut same = |convert: &dyn Fn(&mut Self)| {
+            self.ours.fill(T::low(0));
+            convert(self);
+            self.same()
+        };
+        same(&|frame| frame.convert_bands(limit)) && same(&Self::convert_ours)
+    }
+}
+
 /// Median times in ms, each at its contender's place.
 pub type Times = Vec<f64>;
 
@@ -137,6 +167,27 @@ fn measure_of<T: Convert>(task: Task, count: usize, rounds: usize, batch: usize)
         }
     });
     (times, first && same(&frames))
+}
+
+/// The times of a frame in bands of at most `limit` rows and as a whole, both by the library and on
+/// one destination, and whether the pixels and the counts are equal before and after.
+#[cfg(feature = "bands")]
+pub fn measure_bands(task: Task, limit: u32, rounds: usize) -> (Times, bool) {
+    match task.codes.depth {
+        8 => measure_bands_of::<u8>(task, limit, rounds),
+        _ => measure_bands_of::<u16>(task, limit, rounds),
+    }
+}
+
+#[cfg(feature = "bands")]
+fn measure_bands_of<T: ConvertBand>(task: Task, limit: u32, rounds: usize) -> (Times, bool) {
+    let mut frame = Frame::<T>::new(task, 7);
+    let first = frame.same_in_bands(limit);
+    let times = in_turns(2, rounds, 1, |which, _| match which {
+        0 => frame.convert_bands(limit),
+        _ => frame.convert_ours(),
+    });
+    (times, first && frame.same_in_bands(limit))
 }
 
 /// The times of contenders that run in turns, forwards in one round and backwards in the next, so

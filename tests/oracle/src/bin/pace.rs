@@ -1,5 +1,8 @@
-//! Times frames against the scalar Rust: the quick program. `speed` measures more.
-use oracle::timing::{measure, name, Content, Task, FRAME, OURS, RUST};
+//! Times frames against the scalar Rust, and in bands against the library's whole conversion: the
+//! quick program. `speed` measures more of the former.
+#[cfg(feature = "bands")]
+use oracle::timing::measure_bands;
+use oracle::timing::{measure, name, Content, Task, Times, FRAME};
 use oracle::{tally::status, Codes};
 use std::process::ExitCode;
 
@@ -20,29 +23,45 @@ const SIZES: [(u32, u32, &[Codes]); 3] = [
     (1000, 2000, &[RGBA, RGB]),
 ];
 
+/// The frames in bands, and the rows of a band. The time is to be at most 1.05 of the whole
+/// conversion's.
+#[cfg(feature = "bands")]
+const IN_BANDS: (u32, u32, &[Codes]) = (1920, 1080, &[RGBA, RGB, RGBA_10, RGBA_HIGH]);
+#[cfg(feature = "bands")]
+const BAND: u32 = 16;
+
 fn main() -> ExitCode {
     println!("limited BT.709, medians of {ROUNDS} rounds, in ms");
     let mut same = true;
-    for (width, height, kinds) in SIZES {
-        let sides = format!("{width} by {height}");
-        println!("{sides:36} {:>8} {:>8} {:>8}", "ours", "Rust", "ratio");
-        for content in [Content::Random, Content::Smooth] {
-            let linked = kinds.iter().filter(|c| c.depth == 8 || cfg!(feature = "level_b"));
-            for codes in linked {
-                same &= line(Task { codes: *codes, sides: (width, height), content });
-            }
-        }
+    for size in SIZES {
+        let sides = format!("{} by {}", size.0, size.1);
+        same &= table(&sides, ["ours", "Rust"], size, |task| measure(task, 2, ROUNDS, 1));
+    }
+    #[cfg(feature = "bands")]
+    {
+        let title = format!("{} by {}, bands of {BAND} rows", IN_BANDS.0, IN_BANDS.1);
+        let measure = |task| measure_bands(task, BAND, ROUNDS);
+        same &= table(&title, ["bands", "whole"], IN_BANDS, measure);
     }
     println!("{}", if same { "all pixels and counts equal" } else { "PIXELS OR COUNTS DIFFER" });
     status(same)
 }
 
-/// Prints a line of the table; whether the pixels and the counts are equal.
-fn line(task: Task) -> bool {
-    let (times, same) = measure(task, 2, ROUNDS, 1);
-    let (ours, rust) = (times[OURS], times[RUST]);
-    let content = if task.content == Content::Smooth { "smooth" } else { "random" };
-    let name = format!("{}, {content}", name(&task.codes));
-    println!("{name:36} {ours:8.3} {rust:8.3} {:8.3}", ours / rust);
-    same
+/// Prints the times of two contenders, in their order, and the ratio; whether the pixels and the counts
+/// are equal.
+fn table(
+    title: &str, [first, second]: [&str; 2], (width, height, kinds): (u32, u32, &[Codes]),
+    measure: impl Fn(Task) -> (Times, bool),
+) -> bool {
+    println!("{title:36} {first:>8} {second:>8} {:>8}", "ratio");
+    let mut all_same = true;
+    for (content, word) in [(Content::Random, "random"), (Content::Smooth, "smooth")] {
+        for codes in kinds.iter().filter(|c| c.depth == 8 || cfg!(feature = "level_b")) {
+            let (times, same) = measure(Task { codes: *codes, sides: (width, height), content });
+            let name = format!("{}, {word}", name(codes));
+            println!("{name:36} {:8.3} {:8.3} {:8.3}", times[0], times[1], times[0] / times[1]);
+            all_same &= same;
+        }
+    }
+    all_same
 }

@@ -6,7 +6,8 @@
 //! seed.
 use oracle::cases::{
     around_limits, around_sides, codes, elements, every_code, every_setting, mostly_small, planes,
-    request, spare, tiny, usable, Samples, GUARD, MODES, SAMPLES, SIDES, TIGHT,
+    request, small_sides, spare, tight_or_spare, tiny, usable, Samples, GUARD, MODES, SAMPLES,
+    SIDES, TIGHT,
 };
 use oracle::library::Convert;
 use oracle::tally::{differing, samples_of, status, Tally};
@@ -239,7 +240,7 @@ fn compare_planes<T: Convert>(run: &mut Run, q: Request, planes: &Planes<T>) {
 
 fn small<T: Convert>(run: &mut Run) {
     let settings = every_setting::<T>(run.packing, run.mode);
-    for (width, height) in (0..81).map(|n| (n % 9 + 1, n / 9 + 1)) {
+    for (width, height) in small_sides() {
         for codes in &settings {
             for kind in SAMPLES {
                 compare::<T>(run, kind, request(*codes, width, height, TIGHT));
@@ -311,9 +312,8 @@ fn widths<T: Convert>(run: &mut Run) {
     for (width, n) in (1..=1200).flat_map(|width| (0..8).map(move |n| (width, n))) {
         for kind in &kinds {
             let codes = Codes { sampling: n % 2, order: n / 2, ..usable(run.codes::<T>()) };
-            let random = &mut run.random;
-            let slack = if random.below(2) == 0 { TIGHT } else { spare(random) };
-            let height = random.between(1, 4);
+            let slack = tight_or_spare(&mut run.random);
+            let height = run.random.between(1, 4);
             compare::<T>(run, *kind, request(codes, width, height, slack));
         }
     }
