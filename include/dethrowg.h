@@ -204,7 +204,8 @@ dethrowg_answer dethrowg_yuv16_to_rgb(
  * A host starts at row 0, calls again with first = b.next, and is done where b.next == image.height.
  * With limits of 2 or more that takes at most ceil(height/2) calls, and if no one else writes between
  * them the destination is then that of one whole conversion, whose counts are the sums of the bands'.
- * A limit of 0 or 1 may write nothing, so a loop must not use it. */
+ * A limit of 0 or 1 may write nothing, so a loop must not use it. Bands of one destination must not
+ * be converted at the same time: each call is given the whole of it. */
 dethrowg_band dethrowg_yuv8_to_rgb_band(
     dethrowg_codes codes, dethrowg_image image,
     const uint8_t *y, size_t y_len, const uint8_t *u, size_t u_len,
