@@ -17,7 +17,7 @@ use std::process::ExitCode;
 
 fn main() -> ExitCode {
     let mut arguments = std::env::args().skip(1).map(|text| text.parse().expect("a number"));
-    let pictures = arguments.next().unwrap_or(30_000);
+    let pictures = arguments.next().unwrap_or(100_000);
     let random = Random(arguments.next().unwrap_or(2025));
     let (tally, counts) = (Tally::default(), Counts::default());
     let mut run = Run { tally, counts, random, pictures, packing: 0, mode: 0 };
@@ -150,7 +150,8 @@ impl<T: ConvertBand> Picture<T> {
         if picture.whole != wanted || lent.unlike(&picture) || !tied {
             let whole = picture.whole;
             picture.differ(run, &lent, || {
-                format!("  as a whole\n  ours   {whole:?}\n  wanted {wanted:?}\n  tied {tied}")
+                let tie = if tied { "" } else { "\n  the second reading is not as the Rust's" };
+                format!("  as a whole\n  ours   {whole:?}\n  wanted {wanted:?}{tie}")
             });
         }
         picture
