@@ -3,6 +3,7 @@
 ghost use mathlib.Core.Path.{_≡_};
 ghost use Prim.Native.Nat.{ℕ, _≤_, _*_};
 ghost use lib.Dec.{eqb};
+ghost use Rattle.yuv_support.specs.Counts.{unclipped};
 ghost use Rattle.yuv_support.specs.Questions.{verdict, extent, sides, needed, destination, plane};
 ghost use Rattle.yuv_error.specs.Told.{told, faultTold, asTold, reported, bandReported};
 use yuv_support::Clipped;
@@ -177,6 +178,19 @@ pub fn band_report_of(b: ConvertedBand) -> BandReport
         above: r.above,
         rows: b.rows as u64,
         next: b.next as u64,
+    }
+}
+
+// The answer of a refused band: nothing was written, and the next first row is its own.
+pub fn refused_band(answer: YuvError, first: u32) -> ConvertedBand
+    ensures { λ r. ⌜ r ≡ record { converted = record { answer = answer; clipped = unclipped }; rows = 0; next = first } ⌝ }
+{
+    let clipped = Clipped { below: 0, above: 0 };
+    let converted = Converted { answer, clipped };
+    ConvertedBand {
+        converted,
+        rows: 0,
+        next: first,
     }
 }
 

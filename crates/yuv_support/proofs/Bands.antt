@@ -14,7 +14,7 @@ use Rattle.yuv_support.specs.declared.Codes.{Codes}
 use Rattle.yuv_support.specs.declared.YuvPlanarImage.{YuvPlanarImage}
 use Rattle.yuv_support.specs.Blend.{frameOf}
 use Rattle.yuv_support.specs.Picture.{band, bandRows, picture}
-use Rattle.yuv_support.specs.Counts.{clippedIn, unclipped}
+use Rattle.yuv_support.specs.Counts.{clippedIn}
 use Rattle.yuv_support.specs.Questions.{Verdict, verdict, accepted, decoded, firstRowUsable, questionsOf, conversionQuestions}
 use Rattle.yuv_support.specs.Conversion.{requestFor, answerTo, destinationAfter, clippedAfter, answerToBand, rowsAfter, destinationAfterBand, clippedAfterBand}
 use Rattle.yuv_support.specs.Bands.{Progress, begun, TwoOrMore, further, afterCalls, WholeAsBand, WholeIsBand, BandsFinish, WholeAsBand, BandsTogether, RefusedKeeps}

@@ -16,7 +16,7 @@ use Rattle.yuv_support.specs.declared.Settings.{Settings}
 use Rattle.yuv_support.specs.declared.YuvPlanarImage.{YuvPlanarImage}
 use Rattle.yuv_support.specs.Settings.{among, depths, depths8, depths16, maxOf, unpacked}
 use Rattle.yuv_support.specs.Blend.{Frame, frameOf}
-use Rattle.yuv_support.specs.Picture.{channelsOf, band, bandRows}
+use Rattle.yuv_support.specs.Picture.{channelsOf, band}
 use Rattle.yuv_support.specs.Questions.{decoded, needed, firstRowUsable, questionsOf, conversionQuestions}
 use Rattle.yuv_support.specs.Distance.{measured, WithinDepth}
 use Rattle.yuv_support.specs.Conversion.{requestFor, answerTo, answerToBand, Demand3}

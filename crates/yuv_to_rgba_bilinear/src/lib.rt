@@ -83,16 +83,7 @@ pub fn yuv_to_rgbx_band(
             next,
         };
     }
-    let nothing = Clipped { below: 0, above: 0 };
-    let refused = Converted {
-        answer,
-        clipped: nothing,
-    };
-    ConvertedBand {
-        converted: refused,
-        rows: 0,
-        next: first,
-    }
+    yuv_error::refused_band(answer, first)
 }
 
 // The whole picture: the band from row 0 with the height as limit. Questions 1 to 13 are asked; 19 holds of row 0.
