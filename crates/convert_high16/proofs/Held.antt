@@ -5,7 +5,7 @@ use mathlib.Core.Logic.{_⊎_, inl, inr}
 use mathlib.Core.Bool.{Bool, true, false}
 use mathlib.Core.List.{List, [], _∷_}
 use Prim.Native.Nat.{ℕ, zero, suc, _+_, _-_, _*_, _/_, _%_, _^_, _≤_, _<_}
-use native.Mathlib.Nat.{zero-div}
+use native.Mathlib.Nat.{zero-div, mul-le-mul-left}
 use native.Mathlib.Omega.{arith}
 use borrow.Author.Tests.{eqb-true, eqb-false}
 use borrow.Rule.Slice.PartMut.{putMid}
@@ -38,50 +38,65 @@ divided-samples d xs = refl
 
 -- ---- the halves
 
--- the halves of a buffer, n elements of each, after a part from the begin of half h on, n long, came back as ys
-module _ (buffer ys : List ℕ) (h n : ℕ) (half : h < 2) (narrow : n ≤ 8192) (long : length buffer ≡ 16384) (same : length ys ≡ n) where
-  abbrev after : List ℕ
-  after = putMid (8192 * h) (8192 * h + n - 8192 * h) buffer ys
+-- half g and all that is before it, and the one before half h
+pub two-halves : (n g : ℕ) → g < 2 → n * g + n ≤ 2 * n
+two-halves n g below =
+    let m : n * suc g ≤ n * 2 = mul-le-mul-left n (let l : suc g ≤ 2 = omega arith in l) in
+    omega arith
 
-  size : 8192 * h + n - 8192 * h ≡ n
+before-half : (n g h : ℕ) → g < h → n * g + n ≤ n * h
+before-half n g h lower =
+    let m : n * suc g ≤ n * h = mul-le-mul-left n (let l : suc g ≤ h = omega arith in l) in
+    omega arith
+
+-- a half lies in the buffer
+pub half-fits : (n g : ℕ) (buffer : List ℕ) → g < 2 → 2 * n ≤ length buffer → n * g + n ≤ length buffer
+half-fits n g buffer below long = omega (arith, two-halves n g below)
+
+-- the halves of a buffer, n elements of each, after a part from the begin of half h on, n long, came back as ys
+module _ (buffer ys : List ℕ) (h n : ℕ) (half : h < 2) (long : 2 * n ≤ length buffer) (same : length ys ≡ n) where
+  abbrev after : List ℕ
+  after = putMid (n * h) (n * h + n - n * h) buffer ys
+
+  size : n * h + n - n * h ≡ n
   size = omega arith
 
-  room : 8192 * h + n ≤ length buffer
-  room = omega arith
+  room : n * h + n ≤ length buffer
+  room = half-fits n h buffer half long
 
-  after-long : length after ≡ 16384
-  after-long = rw size (overlay.part-length buffer ys (8192 * h) n room same ∙ long)
+  after-long : length after ≡ length buffer
+  after-long = rw size (overlay.part-length buffer ys (n * h) n room same)
 
-  as-long : (g : ℕ) → g < 2 → length (partOf 8192 g n after) ≡ n
-  as-long g below = part-length 8192 g n after (omega (arith, after-long))
+  as-long : (g : ℕ) → g < 2 → length (partOf n g n after) ≡ n
+  as-long g below = part-length n g n after (omega (arith, after-long, half-fits n g buffer below long))
 
-  own-half : partOf 8192 h n after ≡ ys
+  own-half : partOf n h n after ≡ ys
   own-half =
       ext-getD 0 _ ys (as-long h half ∙ sym same)
       (λ i b. let inside : i < n = omega (arith, as-long h half) in
-      part-at 8192 h n after i inside ∙ rw size (overlay.in-part buffer ys (8192 * h) n room same i inside))
+      part-at n h n after i inside ∙ rw size (overlay.in-part buffer ys (n * h) n room same i inside))
 
   -- an element of the other half
-  kept : (g i : ℕ) → g < 2 → (g ≡ h → ⊥) → i < n → getD after (8192 * g + i) 0 ≡ getD buffer (8192 * g + i) 0
+  kept : (g i : ℕ) → g < 2 → (g ≡ h → ⊥) → i < n → getD after (n * g + i) 0 ≡ getD buffer (n * g + i) 0
   kept g i below differs inside = by-side (overlay.below-or-not g h)
     where
-      by-side : (g < h) ⊎ (h ≤ g) → getD after (8192 * g + i) 0 ≡ getD buffer (8192 * g + i) 0
-      by-side (inl lower) = rw size (overlay.before-part buffer ys (8192 * h) n room same (8192 * g + i) (omega arith))
+      by-side : (g < h) ⊎ (h ≤ g) → getD after (n * g + i) 0 ≡ getD buffer (n * g + i) 0
+      by-side (inl lower) = rw size (overlay.before-part buffer ys (n * h) n room same (n * g + i) (omega (arith, before-half n g h lower)))
       by-side (inr upper) =
           let apart : h < g = omega (arith, differs) in
-          rw size (overlay.past-part buffer ys (8192 * h) n room same (8192 * g + i) (omega arith))
+          rw size (overlay.past-part buffer ys (n * h) n room same (n * g + i) (omega (arith, before-half n h g apart)))
 
-  other-half : (g : ℕ) → g < 2 → (g ≡ h → ⊥) → partOf 8192 g n after ≡ partOf 8192 g n buffer
+  other-half : (g : ℕ) → g < 2 → (g ≡ h → ⊥) → partOf n g n after ≡ partOf n g n buffer
   other-half g below differs =
-      ext-getD 0 _ (partOf 8192 g n buffer) (as-long g below ∙ sym (part-length 8192 g n buffer (omega arith)))
+      ext-getD 0 _ (partOf n g n buffer) (as-long g below ∙ sym (part-length n g n buffer (half-fits n g buffer below long)))
       (λ i b. let inside : i < n = omega (arith, as-long g below) in
-      part-at 8192 g n after i inside ∙ kept g i below differs inside ∙ sym (part-at 8192 g n buffer i inside))
+      part-at n g n after i inside ∙ kept g i below differs inside ∙ sym (part-at n g n buffer i inside))
 
 -- row c was unpacked into its half as ys, and `held` names it
-module _ (shift c columns stride : ℕ) (plane buffer held : List ℕ) {ys : List ℕ} (narrow : columns ≤ 8192) (long : length buffer ≡ 16384)
+module _ (shift c columns stride : ℕ) (plane buffer held : List ℕ) {ys : List ℕ} (long : 2 * columns ≤ length buffer)
     (two : length held ≡ 2) (fits : stride * c + columns ≤ length plane) (is : ys ≡ dividedBy shift (partOf stride c columns plane)) where
   pub held-more : (rows : ℕ) → Held shift rows columns stride plane buffer held
-      → Held shift rows columns stride plane (putMid (8192 * (c % 2)) (8192 * (c % 2) + columns - 8192 * (c % 2)) buffer ys) (set held (c % 2) c)
+      → Held shift rows columns stride plane (putMid (columns * (c % 2)) (columns * (c % 2) + columns - columns * (c % 2)) buffer ys) (set held (c % 2) c)
   held-more rows before r below e = by-half (eqb (r % 2) (c % 2)) refl
     where
       half : c % 2 < 2
@@ -91,14 +106,14 @@ module _ (shift c columns stride : ℕ) (plane buffer held : List ℕ) {ys : Lis
       same = rw is (divided-length shift (partOf stride c columns plane) ∙ part-length stride c columns plane fits)
 
       by-half : (t : Bool) → eqb (r % 2) (c % 2) ≡ t
-          → InHalf shift columns stride plane (putMid (8192 * (c % 2)) (8192 * (c % 2) + columns - 8192 * (c % 2)) buffer ys) r
+          → InHalf shift columns stride plane (putMid (columns * (c % 2)) (columns * (c % 2) + columns - columns * (c % 2)) buffer ys) r
       by-half true t =
           let h : r % 2 ≡ c % 2 = eqb-true (r % 2) (c % 2) t in
           let it : r ≡ c = sym (rw h at e) ∙ getD-set-same held (c % 2) c 0 (omega arith) in
-          rw it (own-half buffer ys (c % 2) columns half narrow long same ∙ is)
+          rw it (own-half buffer ys (c % 2) columns half long same ∙ is)
       by-half false t =
           let differs : r % 2 ≡ c % 2 → ⊥ = eqb-false (r % 2) (c % 2) t in
-          other-half buffer ys (c % 2) columns half narrow long same (r % 2) (omega arith) differs
+          other-half buffer ys (c % 2) columns half long same (r % 2) (omega arith) differs
           ∙ before r below (sym (getD-set-other held (c % 2) (r % 2) c 0 differs) ∙ e)
 
 -- the near row is still named after the other one was held: that has the other half, or is the same row

@@ -2,7 +2,7 @@
 -- Assumes nothing.
 use mathlib.Core.Path.{_≡_, _∙_}
 use mathlib.Core.List.{List}
-use Prim.Native.Nat.{ℕ, _-_, _%_, _≤_, _<_}
+use Prim.Native.Nat.{ℕ, _-_, _*_, _%_, _≤_, _<_}
 use native.Mathlib.Omega.{arith}
 use lib.ListN.{take, getD}
 use Rattle.yuv_support.specs.declared.YuvBytesPacking.the-variants.{MostSignificantBytes}
@@ -31,8 +31,9 @@ module _ {s : Settings} {f : Frame} {k : Kernel} (ready : Ready s f k) (row : �
   pub columns-are : p .columns ≡ chromaWidth (f .width)
   columns-are = rw is
 
-  pub narrow : p .columns ≤ 8192
-  narrow = omega (arith, columns-are, ready .width-most)
+  -- room by the width is room by the number of columns
+  pub by-room : {n : ℕ} → 2 * chromaWidth (f .width) ≤ n → 2 * p .columns ≤ n
+  by-room h = rw columns-are h
 
   pub neighbours : p .near % 2 ≡ p .other % 2 → p .near ≡ p .other
   neighbours = rw is (near-other (s .sampling) (f .height) row inside)

@@ -1,4 +1,5 @@
 -- Chroma rows held unpacked in a buffer that has room for two: row c stands in half c mod 2, so that of two neighbours each keeps its half.
+-- The halves are as long as a row, one after the other from the buffer's begin on.
 -- Definitions only.
 use mathlib.Core.Path.{_≡_}
 use mathlib.Core.List.{List, map}
@@ -21,7 +22,7 @@ dividedBy shift elements = map (λ x. x / 2 ^ shift) elements
 
 -- what stands in the half of row c
 abbrev pub halfOf : ℕ → List ℕ → ℕ → List ℕ
-halfOf columns buffer c = partOf 8192 (c % 2) columns buffer
+halfOf columns buffer c = partOf columns (c % 2) columns buffer
 
 -- row c of a plane, unpacked, stands in its half
 abbrev pub InHalf : ℕ → ℕ → ℕ → List ℕ → List ℕ → ℕ → Type 0
@@ -54,15 +55,15 @@ pub record HeldFits (order : YuvSourceChannels) (row luma us vs : List ℕ) (p :
   pub wide : width ≤ 16384
   pub places : length row ≡ width * channelsOf order
   pub luma-room : width ≤ length luma
-  pub u-room : length us ≡ 16384
-  pub v-room : length vs ≡ 16384
+  pub u-room : 2 * p .columns ≤ length us
+  pub v-room : 2 * p .columns ≤ length vs
   pub columns-are : p .columns ≡ chromaWidth width
 
 -- what the rows of a picture find and leave in the buffers: room for a luma row, and chroma rows held
 pub record Buffers (s : Settings) (f : Frame) (luma us vs u-held v-held : List ℕ) : Type 0 where
-  pub luma-room : length luma ≡ 16384
-  pub u-room : length us ≡ 16384
-  pub v-room : length vs ≡ 16384
+  pub luma-room : f .width ≤ length luma
+  pub u-room : 2 * chromaWidth (f .width) ≤ length us
+  pub v-room : 2 * chromaWidth (f .width) ≤ length vs
   pub u-names : length u-held ≡ 2
   pub v-names : length v-held ≡ 2
   pub u : Held (16 - s .depth) (chromaHeight (s .sampling) (f .height)) (chromaWidth (f .width)) (f .u-stride) (f .u) us u-held

@@ -1,10 +1,11 @@
-// The rows of a picture whose u16 samples stand in the high bits: unpacked into buffers that are made once, then converted as any other row.
+// The rows of a picture whose u16 samples stand in the high bits: unpacked into buffers that are made once, by the width, then converted as any
+// other row.
 // A chroma row serves up to four luma rows of 4:2:0, so it is held until a later one takes its half of the buffer.
 ghost use mathlib.Core.Path.{_≡_};
 ghost use Prim.Native.Nat.{ℕ, _+_, _*_, _/_, _%_, _^_, _≤_, _<_};
 ghost use lib.ListN.{length, take, getD};
 ghost use Rattle.yuv_support.specs.declared.YuvBytesPacking.the-variants.{MostSignificantBytes};
-ghost use Rattle.yuv_support.specs.Blend.{frameOf};
+ghost use Rattle.yuv_support.specs.Blend.{frameOf, chromaWidth};
 ghost use Rattle.yuv_support.specs.Picture.{channelsOf, rowOf, elementOf, band};
 ghost use Rattle.yuv_support.specs.Counts.{clippedRow, clippedIn};
 ghost use Rattle.yuv_support.specs.Questions.{needed};
@@ -49,7 +50,7 @@ fn hold(
     buffer: &mut [u16],
     held: &mut [u32],
 )
-    requires { ⌜ (shift < 16) × (columns ≤ 8192) × (stride * c + columns ≤ length (now plane)) × (length (now buffer) ≡ 16384) × (length (now held) ≡ 2) ⌝ }
+    requires { ⌜ (shift < 16) × (stride * c + columns ≤ length (now plane)) × (2 * columns ≤ length (now buffer)) × (length (now held) ≡ 2) ⌝ }
     ensures { λ _. ⌜ ((rows : ℕ) → Held shift rows columns stride (now (plane .entry)) (now (buffer .entry)) (now (held .entry)) → Held shift rows columns stride (now (plane .entry)) (now (buffer .exit)) (now (held .exit))) ⌝ }
     ensures { λ _. ⌜ (getD (now (held .exit)) (c % 2) 0 ≡ c) × ((i : ℕ) → (i ≡ c % 2 → ⊥) → getD (now (held .exit)) i 0 ≡ getD (now (held .entry)) i 0) ⌝ }
 {
@@ -57,7 +58,7 @@ fn hold(
     if held[half as usize] == c {
         return;
     }
-    let at = 8192 * half as usize;
+    let at = columns as usize * half as usize;
     let row = images::row16(plane, stride, c, columns);
     unpack(&mut buffer[at..at + columns as usize], row, shift);
     held[half as usize] = c;
@@ -72,7 +73,7 @@ fn hold_both(
     buffer: &mut [u16],
     held: &mut [u32],
 )
-    requires { ⌜ (shift < 16) × (p .columns ≤ 8192) × (length (now buffer) ≡ 16384) × (length (now held) ≡ 2) ⌝ }
+    requires { ⌜ (shift < 16) × (2 * p .columns ≤ length (now buffer)) × (length (now held) ≡ 2) ⌝ }
     requires { ⌜ (stride * p .near + p .columns ≤ length (now plane)) × (stride * p .other + p .columns ≤ length (now plane)) × (p .near % 2 ≡ p .other % 2 → p .near ≡ p .other) ⌝ }
     ensures { λ _. ⌜ ((rows : ℕ) → Held shift rows (p .columns) stride (now (plane .entry)) (now (buffer .entry)) (now (held .entry)) → Held shift rows (p .columns) stride (now (plane .entry)) (now (buffer .exit)) (now (held .exit))) ⌝ }
     ensures { λ _. ⌜ (getD (now (held .exit)) (p .near % 2) 0 ≡ p .near) × (getD (now (held .exit)) (p .other % 2) 0 ≡ p .other) ⌝ }
@@ -97,10 +98,10 @@ fn interpolate_held(
     ensures { λ _. ⌜ now (row .exit) ≡ rowOf (λ r. heldValue k order mode width (now (luma .entry)) (now (us .entry)) (now (vs .entry)) p) 0 (now (row .entry)) ⌝ }
     ensures { λ r. ⌜ r ≡ heldClipped k order mode width (now (luma .entry)) (now (us .entry)) (now (vs .entry)) p ⌝ }
 {
-    let un = images::row16(us, 8192, p.near % 2, p.columns);
-    let uf = images::row16(us, 8192, p.other % 2, p.columns);
-    let vn = images::row16(vs, 8192, p.near % 2, p.columns);
-    let vf = images::row16(vs, 8192, p.other % 2, p.columns);
+    let un = images::row16(us, p.columns, p.near % 2, p.columns);
+    let uf = images::row16(us, p.columns, p.other % 2, p.columns);
+    let vn = images::row16(vs, p.columns, p.near % 2, p.columns);
+    let vf = images::row16(vs, p.columns, p.other % 2, p.columns);
     convert16::interpolate_row(row, &luma[..width], un, uf, vn, vf, width, order, mode, k)
 }
 
@@ -139,6 +140,137 @@ fn convert_row(
     interpolate_held(row, luma, us, vs, p, image.width as usize, order, mode, k)
 }
 
+// `count` rows from row `first` on, with buffers that have room for a luma row and for two chroma rows each.
+fn convert_in(
+    rgb: &mut [u16],
+    y: &[u16],
+    u: &[u16],
+    v: &[u16],
+    s: Settings,
+    image: YuvPlanarImage,
+    rgb_stride: u32,
+    k: Kernel,
+    first: u32,
+    count: u32,
+    luma: &mut [u16],
+    us: &mut [u16],
+    vs: &mut [u16],
+) -> Clipped
+    requires { ⌜ Words k × Ready s (frameOf image (now y) (now u) (now v)) k × (s .packing ≡ MostSignificantBytes) ⌝ }
+    requires { ⌜ (first + count ≤ image .height) × (image .width * channelsOf (s .order) ≤ «rgb_stride») × (needed «rgb_stride» (image .width * channelsOf (s .order)) (image .height) ≤ length (now rgb)) ⌝ }
+    requires { ⌜ (image .width ≤ length (now luma)) × (2 * chromaWidth (image .width) ≤ length (now us)) × (2 * chromaWidth (image .width) ≤ length (now vs)) ⌝ }
+    ensures { λ _. ⌜ now (rgb .exit) ≡ band s (frameOf image (now (y .entry)) (now (u .entry)) (now (v .entry))) «rgb_stride» first count (now (rgb .entry)) ⌝ }
+    ensures { λ c. ⌜ c ≡ clippedIn s (frameOf image (now (y .entry)) (now (u .entry)) (now (v .entry))) first count ⌝ }
+{
+    let order = s.order;
+    let n = images::row_length(image.width, order) as usize;
+    let stride = rgb_stride as usize;
+    let end = first + count;
+    // no row has the number 16384
+    let mut u_held = [16384u32; 2];
+    let mut v_held = [16384u32; 2];
+    let mut clipped = Clipped { below: 0, above: 0 };
+    let mut r = first;
+    while r < end {
+        let at = stride * r as usize;
+        let x = convert_row(
+            &mut rgb[at..at + n],
+            y,
+            u,
+            v,
+            s,
+            image,
+            k,
+            r,
+            luma,
+            us,
+            vs,
+            &mut u_held,
+            &mut v_held,
+        );
+        clipped = numerics::both(clipped, x);
+        r += 1;
+    }
+    clipped
+}
+
+// The same with buffers for a width of up to 4096: a quarter of what the widest needs, so that a call of few rows clears less.
+fn convert_narrow(
+    rgb: &mut [u16],
+    y: &[u16],
+    u: &[u16],
+    v: &[u16],
+    s: Settings,
+    image: YuvPlanarImage,
+    rgb_stride: u32,
+    k: Kernel,
+    first: u32,
+    count: u32,
+) -> Clipped
+    requires { ⌜ Words k × Ready s (frameOf image (now y) (now u) (now v)) k × (s .packing ≡ MostSignificantBytes) ⌝ }
+    requires { ⌜ (first + count ≤ image .height) × (image .width * channelsOf (s .order) ≤ «rgb_stride») × (needed «rgb_stride» (image .width * channelsOf (s .order)) (image .height) ≤ length (now rgb)) ⌝ }
+    requires { ⌜ image .width ≤ 4096 ⌝ }
+    ensures { λ _. ⌜ now (rgb .exit) ≡ band s (frameOf image (now (y .entry)) (now (u .entry)) (now (v .entry))) «rgb_stride» first count (now (rgb .entry)) ⌝ }
+    ensures { λ c. ⌜ c ≡ clippedIn s (frameOf image (now (y .entry)) (now (u .entry)) (now (v .entry))) first count ⌝ }
+{
+    let mut luma = [0u16; 4096];
+    let mut us = [0u16; 4096];
+    let mut vs = [0u16; 4096];
+    convert_in(
+        rgb,
+        y,
+        u,
+        v,
+        s,
+        image,
+        rgb_stride,
+        k,
+        first,
+        count,
+        &mut luma,
+        &mut us,
+        &mut vs,
+    )
+}
+
+// The same with buffers for any width.
+fn convert_wide(
+    rgb: &mut [u16],
+    y: &[u16],
+    u: &[u16],
+    v: &[u16],
+    s: Settings,
+    image: YuvPlanarImage,
+    rgb_stride: u32,
+    k: Kernel,
+    first: u32,
+    count: u32,
+) -> Clipped
+    requires { ⌜ Words k × Ready s (frameOf image (now y) (now u) (now v)) k × (s .packing ≡ MostSignificantBytes) ⌝ }
+    requires { ⌜ (first + count ≤ image .height) × (image .width * channelsOf (s .order) ≤ «rgb_stride») × (needed «rgb_stride» (image .width * channelsOf (s .order)) (image .height) ≤ length (now rgb)) ⌝ }
+    ensures { λ _. ⌜ now (rgb .exit) ≡ band s (frameOf image (now (y .entry)) (now (u .entry)) (now (v .entry))) «rgb_stride» first count (now (rgb .entry)) ⌝ }
+    ensures { λ c. ⌜ c ≡ clippedIn s (frameOf image (now (y .entry)) (now (u .entry)) (now (v .entry))) first count ⌝ }
+{
+    let mut luma = [0u16; 16384];
+    let mut us = [0u16; 16384];
+    let mut vs = [0u16; 16384];
+    convert_in(
+        rgb,
+        y,
+        u,
+        v,
+        s,
+        image,
+        rgb_stride,
+        k,
+        first,
+        count,
+        &mut luma,
+        &mut us,
+        &mut vs,
+    )
+}
+
 // `count` rows from row `first` on. All else in the destination is kept.
 pub fn convert_rows(
     rgb: &mut [u16],
@@ -157,37 +289,8 @@ pub fn convert_rows(
     ensures { λ _. ⌜ now (rgb .exit) ≡ band s (frameOf image (now (y .entry)) (now (u .entry)) (now (v .entry))) «rgb_stride» first count (now (rgb .entry)) ⌝ }
     ensures { λ c. ⌜ c ≡ clippedIn s (frameOf image (now (y .entry)) (now (u .entry)) (now (v .entry))) first count ⌝ }
 {
-    let order = s.order;
-    let n = images::row_length(image.width, order) as usize;
-    let stride = rgb_stride as usize;
-    let end = first + count;
-    let mut luma = [0u16; 16384];
-    let mut us = [0u16; 16384];
-    let mut vs = [0u16; 16384];
-    // no row has the number 16384
-    let mut u_held = [16384u32; 2];
-    let mut v_held = [16384u32; 2];
-    let mut clipped = Clipped { below: 0, above: 0 };
-    let mut r = first;
-    while r < end {
-        let at = stride * r as usize;
-        let x = convert_row(
-            &mut rgb[at..at + n],
-            y,
-            u,
-            v,
-            s,
-            image,
-            k,
-            r,
-            &mut luma,
-            &mut us,
-            &mut vs,
-            &mut u_held,
-            &mut v_held,
-        );
-        clipped = numerics::both(clipped, x);
-        r += 1;
+    if image.width <= 4096 {
+        return convert_narrow(rgb, y, u, v, s, image, rgb_stride, k, first, count);
     }
-    clipped
+    convert_wide(rgb, y, u, v, s, image, rgb_stride, k, first, count)
 }

@@ -13,7 +13,7 @@ use Rattle.yuv_support.proofs.Rows.{part-length}
 use Rattle.kernel.specs.Kernels.{mostOf}
 use Rattle.kernel.proofs.Frames.{Parts, parts-in, row-of-parts, clipped-of-parts, words-most, words-depth}
 use Rattle.convert_high16.specs.Held.{dividedBy, halfOf, Buffers}
-use Rattle.convert_high16.proofs.Parts.{BothHeld, columns-are, narrow, neighbours, by-columns, by-width, held-parts}
+use Rattle.convert_high16.proofs.Parts.{BothHeld, columns-are, by-room, neighbours, by-columns, by-width, held-parts}
 use Rattle.convert_high16.proofs.convert_row.Statement.{statement}
 use Rattle.convert_high16.proofs.convert_row.Tie as tie
 
@@ -31,13 +31,13 @@ hold-both-requires : tie.Need-hold-both-requires
 hold-both-requires c κs =
     let start = c .before .before .before .before .before .before .before .before .before .before .before .before .before in
     let inside = parts-in (start .pre .0 .1) (start .args .r) (start .pre .1 .0 .0) (c .before .before .chroma-rows .ensures) in
-    ((omega (arith, depth-of start .0, depth-of start .1), narrow (start .pre .0 .1) (start .args .r) (start .pre .1 .0 .0) (c .before .before .chroma-rows .ensures), start .pre .1 .1 .u-room, start .pre .1 .1 .u-names), (inside .u-near, inside .u-other, neighbours (start .pre .0 .1) (start .args .r) (start .pre .1 .0 .0) (c .before .before .chroma-rows .ensures)))
+    ((omega (arith, depth-of start .0, depth-of start .1), by-room (start .pre .0 .1) (start .args .r) (start .pre .1 .0 .0) (c .before .before .chroma-rows .ensures) (start .pre .1 .1 .u-room), start .pre .1 .1 .u-names), (inside .u-near, inside .u-other, neighbours (start .pre .0 .1) (start .args .r) (start .pre .1 .0 .0) (c .before .before .chroma-rows .ensures)))
 
 hold-both-requires-2 : tie.Need-hold-both-requires-2
 hold-both-requires-2 c κs =
     let start = c .before .before .before .before .before .before .before .before .before .before .before .before .before .before .before .before .before .before .before .before in
     let inside = parts-in (start .pre .0 .1) (start .args .r) (start .pre .1 .0 .0) (c .before .before .before .before .before .before .before .before .before .chroma-rows .ensures) in
-    ((omega (arith, depth-of start .0, depth-of start .1), narrow (start .pre .0 .1) (start .args .r) (start .pre .1 .0 .0) (c .before .before .before .before .before .before .before .before .before .chroma-rows .ensures), start .pre .1 .1 .v-room, start .pre .1 .1 .v-names), (inside .v-near, inside .v-other, neighbours (start .pre .0 .1) (start .args .r) (start .pre .1 .0 .0) (c .before .before .before .before .before .before .before .before .before .chroma-rows .ensures)))
+    ((omega (arith, depth-of start .0, depth-of start .1), by-room (start .pre .0 .1) (start .args .r) (start .pre .1 .0 .0) (c .before .before .before .before .before .before .before .before .before .chroma-rows .ensures) (start .pre .1 .1 .v-room), start .pre .1 .1 .v-names), (inside .v-near, inside .v-other, neighbours (start .pre .0 .1) (start .args .r) (start .pre .1 .0 .0) (c .before .before .before .before .before .before .before .before .before .chroma-rows .ensures)))
 
 row16-requires : tie.Need-row16-requires
 row16-requires c κs =
@@ -51,7 +51,7 @@ luma-fits c =
     let start = c .before .before .before .before .before .before .before .before .before .before .before .before .before .before .before .before .before .before .before .before .before .before .before .before .before .before in
     let inside = parts-in (start .pre .0 .1) (start .args .r) (start .pre .1 .0 .0) (c .before .before .before .before .before .before .before .before .before .before .before .before .before .before .before .chroma-rows .ensures) in (
       ap length (c .row16 .ensures) ∙ part-length (start .args .image .«y_stride») (start .args .r) (start .args .image .width) (start .args .y .now) (inside .y),
-      omega (arith, start .pre .0 .1 .width-most, start .pre .1 .1 .luma-room),
+      start .pre .1 .1 .luma-room,
     )
 
 unpack-requires : tie.Need-unpack-requires
@@ -125,9 +125,9 @@ left c =
     let start = start-of c in
     let found = start .pre .1 .1 in
     record {
-      luma-room = c .unpack .kept .0 ∙ found .luma-room;
-      u-room = after-u c .hold-both .kept .1 .1 .1 .1 .0 ∙ found .u-room;
-      v-room = after-v c .hold-both2 .kept .1 .1 .1 .1 .0 ∙ found .v-room;
+      luma-room = omega (arith, c .unpack .kept .0, found .luma-room);
+      u-room = omega (arith, after-u c .hold-both .kept .1 .1 .1 .1 .0, found .u-room);
+      v-room = omega (arith, after-v c .hold-both2 .kept .1 .1 .1 .1 .0, found .v-room);
       u-names = after-u c .hold-both .kept .1 .1 .1 .1 .1 .0 ∙ found .u-names;
       v-names = after-v c .hold-both2 .kept .1 .1 .1 .1 .1 .0 ∙ found .v-names;
       u = by-width (start .pre .0 .1) (start .args .r) (start .pre .1 .0 .0) (rows-of c .chroma-rows .ensures) (start .args .image .«u_stride») (start .args .u .now) (us-of c) (u-held-of c) (u-held c .rows-held);
@@ -147,8 +147,8 @@ interpolate-held-requires c κs =
         wide = start .pre .0 .1 .width-most;
         places = start .pre .1 .0 .1;
         luma-room = omega (arith, d .unpack .kept .0, luma-fits (d .before .before) .1);
-        u-room = left d .u-room;
-        v-room = left d .v-room;
+        u-room = by-room (start .pre .0 .1) (start .args .r) (start .pre .1 .0 .0) (rows-of d .chroma-rows .ensures) (left d .u-room);
+        v-room = by-room (start .pre .0 .1) (start .args .r) (start .pre .1 .0 .0) (rows-of d .chroma-rows .ensures) (left d .v-room);
         columns-are = columns-are (start .pre .0 .1) (start .args .r) (start .pre .1 .0 .0) (rows-of d .chroma-rows .ensures);
       },
     )

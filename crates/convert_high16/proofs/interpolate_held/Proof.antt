@@ -3,27 +3,28 @@
 use borrow.Author.Needs.{needs}
 use mathlib.Core.Path.{_≡_, sym, _∙_}
 use mathlib.Core.List.{List}
-use Prim.Native.Nat.{ℕ, _%_, _≤_, _<_}
+use Prim.Native.Nat.{ℕ, _*_, _%_, _≤_, _<_}
 use native.Mathlib.Omega.{arith}
 use lib.ListN.{length}
 use lib.Seq.{length-take-le}
 use Rattle.yuv_support.specs.Blend.{chromaWidth}
 use Rattle.yuv_support.specs.Questions.{partOf}
 use Rattle.yuv_support.proofs.Rows.{part-length}
+use Rattle.convert_high16.proofs.Held.{half-fits}
 use Rattle.convert_high16.proofs.interpolate_held.Statement.{statement}
 use Rattle.convert_high16.proofs.interpolate_held.Tie as tie
 
 row16-requires : tie.Need-row16-requires
-row16-requires c κs = search needs
+row16-requires c κs = half-fits _ (c .before .before .before .before .before .args .p .near % 2) (c .before .before .before .before .before .args .us .now) (omega arith) (c .before .before .before .before .before .pre .1 .u-room)
 
 row16-requires-2 : tie.Need-row16-requires-2
-row16-requires-2 c κs = search needs
+row16-requires-2 c κs = half-fits _ (c .before .before .before .before .before .before .before .args .p .other % 2) (c .before .before .before .before .before .before .before .args .us .now) (omega arith) (c .before .before .before .before .before .before .before .pre .1 .u-room)
 
 row16-requires-3 : tie.Need-row16-requires-3
-row16-requires-3 c κs = search needs
+row16-requires-3 c κs = half-fits _ (c .before .before .before .before .before .before .before .before .before .args .p .near % 2) (c .before .before .before .before .before .before .before .before .before .args .vs .now) (omega arith) (c .before .before .before .before .before .before .before .before .before .pre .1 .v-room)
 
 row16-requires-4 : tie.Need-row16-requires-4
-row16-requires-4 c κs = search needs
+row16-requires-4 c κs = half-fits _ (c .before .before .before .before .before .before .before .before .before .before .before .args .p .other % 2) (c .before .before .before .before .before .before .before .before .before .before .before .args .vs .now) (omega arith) (c .before .before .before .before .before .before .before .before .before .before .before .pre .1 .v-room)
 
 slice-aggregate-interpolate-row : tie.Need-slice-aggregate-interpolate-row
 slice-aggregate-interpolate-row c =
@@ -31,18 +32,18 @@ slice-aggregate-interpolate-row c =
     sym (length-take-le (start .args .width) (start .args .luma .now) (start .pre .1 .luma-room))
 
 -- a row lent from a half is as long as it has columns
-as-long : {lent : List ℕ} (buffer : List ℕ) (h columns : ℕ) {width : ℕ} → lent ≡ partOf 8192 h columns buffer → h < 2 → length buffer ≡ 16384 → width ≤ 16384
+as-long : {lent : List ℕ} (buffer : List ℕ) (h columns width : ℕ) → lent ≡ partOf columns h columns buffer → h < 2 → 2 * columns ≤ length buffer
     → columns ≡ chromaWidth width → chromaWidth width ≤ length lent
-as-long buffer h columns is half long wide e = rw is (omega (arith, part-length 8192 h columns buffer (omega arith)))
+as-long buffer h columns width is half long e = rw is (omega (arith, part-length columns h columns buffer (half-fits columns h buffer half long)))
 
 interpolate-row-requires : tie.Need-interpolate-row-requires
 interpolate-row-requires c κs =
     let start = c .before .before .before .before .before .before .before .before .before .before .before .before .before .before in
     let f = start .pre .1 in
-    let un = as-long (start .args .us .now) (start .args .p .near % 2) (start .args .p .columns) (c .before .before .before .before .before .before .before .before .row16 .ensures) (omega arith) (f .u-room) (f .wide) (f .columns-are) in
-    let uf = as-long (start .args .us .now) (start .args .p .other % 2) (start .args .p .columns) (c .before .before .before .before .before .before .row162 .ensures) (omega arith) (f .u-room) (f .wide) (f .columns-are) in
-    let vn = as-long (start .args .vs .now) (start .args .p .near % 2) (start .args .p .columns) (c .before .before .before .before .row163 .ensures) (omega arith) (f .v-room) (f .wide) (f .columns-are) in
-    let vf = as-long (start .args .vs .now) (start .args .p .other % 2) (start .args .p .columns) (c .before .before .row164 .ensures) (omega arith) (f .v-room) (f .wide) (f .columns-are) in (
+    let un = as-long (start .args .us .now) (start .args .p .near % 2) (start .args .p .columns) (start .args .width) (c .before .before .before .before .before .before .before .before .row16 .ensures) (omega arith) (f .u-room) (f .columns-are) in
+    let uf = as-long (start .args .us .now) (start .args .p .other % 2) (start .args .p .columns) (start .args .width) (c .before .before .before .before .before .before .row162 .ensures) (omega arith) (f .u-room) (f .columns-are) in
+    let vn = as-long (start .args .vs .now) (start .args .p .near % 2) (start .args .p .columns) (start .args .width) (c .before .before .before .before .row163 .ensures) (omega arith) (f .v-room) (f .columns-are) in
+    let vf = as-long (start .args .vs .now) (start .args .p .other % 2) (start .args .p .columns) (start .args .width) (c .before .before .row164 .ensures) (omega arith) (f .v-room) (f .columns-are) in (
       start .pre .0,
       record {
         some = f .some;
