@@ -357,7 +357,7 @@ fn known<T: ConvertBand>() -> [Part; 6] {
         ("strides and lengths around every limit", limits::<T>),
         ("sides around 0 and 16384", large::<T>),
         ("random pictures", various::<T>),
-        ("widths 1 to 1200", widths::<T>),
+        ("widths 1 to 1200 and around 4096", widths::<T>),
     ]
 }
 
@@ -413,10 +413,12 @@ fn various<T: ConvertBand>(run: &mut Run) {
     }
 }
 
-/// Every width from 1 to 1,200, in both samplings, up to nine rows high.
+/// Every width from 1 to 1,200, in both samplings, up to nine rows high, and those around 4,096: up to
+/// there the library has smaller buffers for samples in the high bits.
 fn widths<T: ConvertBand>(run: &mut Run) {
     let kinds = [&SAMPLES[..], &[Samples::Mixed]].concat();
-    for (width, sampling) in (1..=1200).flat_map(|width| [(width, 0), (width, 1)]) {
+    let around = [4094, 4095, 4096, 4097, 4098, 8191, 8192, 8193];
+    for (width, sampling) in (1..=1200).chain(around).flat_map(|width| [(width, 0), (width, 1)]) {
         let codes = Codes { sampling, ..usable(run.codes::<T>()) };
         let slack = tight_or_spare(&mut run.random);
         let (kind, height) = (run.random.pick(&kinds), run.random.between(1, 9));
