@@ -194,7 +194,8 @@ fn convert_in(
     clipped
 }
 
-// The same with buffers for a width of up to 4096: a quarter of what the widest needs, so that a call of few rows clears less.
+// The same with buffers for a width of up to 4096: a quarter of what the widest needs, so that a call of few rows clears less. This and
+// `convert_wide` are two functions so that the compiler lays the buffers of one over those of the other; in one it would take stack for both.
 fn convert_narrow(
     rgb: &mut [u16],
     y: &[u16],

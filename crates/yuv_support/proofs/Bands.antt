@@ -17,7 +17,7 @@ use Rattle.yuv_support.specs.Picture.{band, bandRows, picture}
 use Rattle.yuv_support.specs.Counts.{clippedIn}
 use Rattle.yuv_support.specs.Questions.{Verdict, verdict, accepted, decoded, firstRowUsable, questionsOf, conversionQuestions}
 use Rattle.yuv_support.specs.Conversion.{requestFor, answerTo, destinationAfter, clippedAfter, answerToBand, rowsAfter, destinationAfterBand, clippedAfterBand}
-use Rattle.yuv_support.specs.Bands.{Progress, begun, TwoOrMore, further, afterCalls, WholeAsBand, WholeIsBand, BandsFinish, WholeAsBand, BandsTogether, RefusedKeeps}
+use Rattle.yuv_support.specs.Bands.{Progress, begun, TwoOrMore, further, afterCalls, SameAsWhole, BandsFinish, WholeAsBand, BandsTogether, RefusedKeeps}
 use Rattle.yuv_support.proofs.Picture.{band-length, no-band, band-join}
 use Rattle.yuv_support.proofs.Counts.{bands-add, band-none}
 use Rattle.yuv_support.proofs.Questions.{each-holds, all-hold-accepted, verdict-append-accepted, verdict-append-refused}
@@ -195,7 +195,7 @@ module _ (known : List ℕ) (codes : Codes) (image : YuvPlanarImage) (y u v : Li
   unfolding answerTo answerToBand
   refused-answer r = verdict-append-refused (conversionQuestions known (requestFor codes image y u v stride rgb)) _ r
 
-  accepted-whole : answerTo known codes image y u v stride rgb .number ≡ 0 → WholeIsBand known codes image y u v stride rgb
+  accepted-whole : answerTo known codes image y u v stride rgb .number ≡ 0 → SameAsWhole known codes image y u v stride rgb
   unfolding destinationAfterBand clippedAfterBand destinationAfter clippedAfter picture
   accepted-whole e =
       let first : FirstRow 0 (image .height) = record { most = omega arith; even-or-last = inl refl } in
@@ -207,7 +207,7 @@ module _ (known : List ℕ) (codes : Codes) (image : YuvPlanarImage) (y u v : Li
         clipped = rw (r, eq-eqb _ _ e);
       }
 
-  refused-whole : (answerTo known codes image y u v stride rgb .number ≡ 0 → ⊥) → WholeIsBand known codes image y u v stride rgb
+  refused-whole : (answerTo known codes image y u v stride rgb .number ≡ 0 → ⊥) → SameAsWhole known codes image y u v stride rgb
   unfolding destinationAfter clippedAfter
   refused-whole r =
       let a = refused-answer r in
@@ -221,6 +221,6 @@ module _ (known : List ℕ) (codes : Codes) (image : YuvPlanarImage) (y u v : Li
 pub whole-as-band : WholeAsBand
 whole-as-band known codes image y u v stride rgb = by-answer (eqb (answerTo known codes image y u v stride rgb .number) 0) refl
   where
-    by-answer : (t : Bool) → eqb (answerTo known codes image y u v stride rgb .number) 0 ≡ t → WholeIsBand known codes image y u v stride rgb
+    by-answer : (t : Bool) → eqb (answerTo known codes image y u v stride rgb .number) 0 ≡ t → SameAsWhole known codes image y u v stride rgb
     by-answer true e = accepted-whole known codes image y u v stride rgb (eqb-true _ _ e)
     by-answer false e = refused-whole known codes image y u v stride rgb (eqb-false _ _ e)

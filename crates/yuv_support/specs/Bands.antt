@@ -40,8 +40,8 @@ module _ (known : List ℕ) (codes : Codes) (image : YuvPlanarImage) (y u v : Li
   afterCalls p [] = p
   afterCalls p (limit ∷ limits) = afterCalls (further p limit) limits
 
-  -- the whole conversion is the band from row 0 with the height as limit
-  pub record WholeIsBand (rgb : List ℕ) : Type 0 where
+  -- the band from row 0 with the height as limit gives what the whole conversion gives
+  pub record SameAsWhole (rgb : List ℕ) : Type 0 where
     pub answer : answerToBand known codes image y u v stride rgb 0 ≡ answerTo known codes image y u v stride rgb
     pub destination : destinationAfterBand known codes image y u v stride rgb 0 (image .height) ≡ destinationAfter known codes image y u v stride rgb
     pub clipped : clippedAfterBand known codes image y u v stride rgb 0 (image .height) ≡ clippedAfter known codes image y u v stride rgb
@@ -68,7 +68,7 @@ module _ (known : List ℕ) (codes : Codes) (image : YuvPlanarImage) (y u v : Li
 abbrev pub WholeAsBand : Type 0
 WholeAsBand =
     (known : List ℕ) (codes : Codes) (image : YuvPlanarImage) (y u v : List ℕ) (stride : ℕ) (rgb : List ℕ)
-    → WholeIsBand known codes image y u v stride rgb
+    → SameAsWhole known codes image y u v stride rgb
 
 abbrev pub BandsTogether : Type 0
 BandsTogether =
