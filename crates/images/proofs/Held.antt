@@ -12,15 +12,21 @@ use Rattle.yuv_support.specs.Questions.{verdict, sides, codesKnown}
 use Rattle.yuv_support.proofs.Questions.{each-holds}
 
 pub record Sides (width height : ℕ) : Type 0 where
-  pub width-most : width ≤ 16384
+  pub width-least : 1 ≤ width
   pub height-least : 1 ≤ height
+  pub width-most : width ≤ 16384
+  pub height-most : height ≤ 16384
 
 pub sides-held : (width height : ℕ) → verdict (sides width height) .number ≡ 0 → Sides width height
 sides-held width height e =
     let h = each-holds (sides width height) refl e in
+    let least = and-eq-true-iff (leb 1 width) _ .0 (h 0) in
+    let most = and-eq-true-iff (leb width 16384) _ .0 (h 1) in
     record {
-      width-most = leb-true width 16384 (and-eq-true-iff (leb width 16384) _ .0 (h 1) .0);
-      height-least = leb-true 1 height (and-eq-true-iff (leb 1 width) _ .0 (h 0) .1);
+      width-least = leb-true _ _ (least .0);
+      height-least = leb-true _ _ (least .1);
+      width-most = leb-true _ _ (most .0);
+      height-most = leb-true _ _ (most .1);
     }
 
 pub depth-held : (depthKnown : Bool) (c : Codes) → codesKnown depthKnown c .holds ≡ true → depthKnown ≡ true

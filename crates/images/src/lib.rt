@@ -148,7 +148,7 @@ pub fn band_rows(height: u32, first: u32, limit: u32) -> u32
 }
 
 // Question 1.
-fn check_sampling(sampling: u32) -> YuvError
+pub fn check_sampling(sampling: u32) -> YuvError
     ensures { λ r. ⌜ told r ≡ verdict (samplingKnown sampling ∷ []) ⌝ }
 {
     if 1 < sampling {
@@ -215,7 +215,7 @@ fn check_chroma_channels(
 }
 
 // Questions 7 to 12: luma, then chroma.
-fn check_constraints(
+pub fn check_constraints(
     sampling: YuvChromaSubsampling,
     image: YuvPlanarImage,
     lengths: Lengths,

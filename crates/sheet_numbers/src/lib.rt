@@ -47,7 +47,7 @@ pub fn begins_with(s: &[u8], text: &[u8]) -> bool
     true
 }
 
-fn is_digit(byte: u8) -> bool
+pub fn is_digit(byte: u8) -> bool
     ensures { λ r. ⌜ r ≡ isDigit byte ⌝ }
 {
     48 <= byte && byte <= 57

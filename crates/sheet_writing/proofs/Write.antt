@@ -56,16 +56,20 @@ digit-length : (t : Bool) (x : ℕ) → length (cond t (x ∷ []) []) ≤ 1
 digit-length true x = omega arith
 digit-length false x = omega arith
 
-leading-digit-length : (power n : ℕ) → length (leadingDigit power n) ≤ 1
+pub leading-digit-length : (power n : ℕ) → length (leadingDigit power n) ≤ 1
 unfolding leadingDigit
 leading-digit-length power n = digit-length (leb power n) (48 + n / power % 10)
 
-pub number-text-length : (n byte : ℕ) → length (numberText n byte) ≤ 6
-unfolding numberText decimalText
-number-text-length n byte =
+pub decimal-text-length : (n : ℕ) → length (decimalText n) ≤ 5
+unfolding decimalText
+decimal-text-length n =
     simp length-append
     (omega
     (arith, leading-digit-length 10000 n, leading-digit-length 1000 n, leading-digit-length 100 n, leading-digit-length 10 n))
+
+pub number-text-length : (n byte : ℕ) → length (numberText n byte) ≤ 6
+unfolding numberText
+number-text-length n byte = simp length-append (omega (arith, decimal-text-length n))
 
 -- where a digit and a number end that are written
 pub digit-most : (power n : ℕ) {old new : List ℕ} {at next : ℕ} → Wrote old at (leadingDigit power n) new next → next ≤ at + 1

@@ -21,6 +21,9 @@ use Rattle.yuv_error.specs.declared.YuvError.the-variants.{
   VPlaneSizeMismatch,
   UnusableWeights,
   RowOutside,
+  MalformedStream,
+  UnknownStream,
+  ShortFrame,
   UnusableFirstRow,
 }
 use Rattle.yuv_error.specs.declared.Told.{Told}
@@ -51,6 +54,9 @@ told (VPlaneMinimumSizeMismatch size) = mismatched 11 size
 told (VPlaneSizeMismatch size) = mismatched 12 size
 told UnusableWeights = refused 13
 told RowOutside = refused 14
+told MalformedStream = refused 16
+told UnknownStream = refused 17
+told ShortFrame = refused 18
 told UnusableFirstRow = refused 19
 
 -- the three numbers as the struct that is handed out

@@ -4,7 +4,8 @@ ghost use mathlib.Core.Path.{_≡_};
 ghost use Prim.Native.Nat.{ℕ, _≤_, _*_};
 ghost use lib.Dec.{eqb};
 ghost use Rattle.yuv_support.specs.Counts.{unclipped};
-ghost use Rattle.yuv_support.specs.Questions.{verdict, extent, sides, needed, destination, plane};
+ghost use mathlib.Core.List.{_∷_, []};
+ghost use Rattle.yuv_support.specs.Questions.{verdict, atLeast, extent, sides, needed, destination, plane};
 ghost use Rattle.yuv_error.specs.Told.{told, faultTold, asTold, reported, bandReported};
 use yuv_support::Clipped;
 
@@ -45,6 +46,12 @@ pub enum YuvError {
     UnusableWeights,
     // 14
     RowOutside,
+    // 16
+    MalformedStream,
+    // 17
+    UnknownStream,
+    // 18
+    ShortFrame,
     // 19
     UnusableFirstRow,
 }
@@ -145,6 +152,9 @@ pub fn told_of(e: YuvError) -> Told
         YuvError::VPlaneSizeMismatch(size) => mismatched(12, size),
         YuvError::UnusableWeights => refused(13),
         YuvError::RowOutside => refused(14),
+        YuvError::MalformedStream => refused(16),
+        YuvError::UnknownStream => refused(17),
+        YuvError::ShortFrame => refused(18),
         YuvError::UnusableFirstRow => refused(19),
     }
 }
@@ -220,6 +230,16 @@ fn needed_length(stride: u32, row: u32, height: u32) -> u64
     ensures { λ r. ⌜ r ≡ needed stride row height ⌝ }
 {
     stride as u64 * (height as u64 - 1) + row as u64
+}
+
+// Question 5 of an output that has to take `expected` elements one after the other, and has `received`.
+pub fn check_output(received: u64, expected: u64) -> YuvError
+    ensures { λ r. ⌜ told r ≡ verdict (atLeast 5 expected received ∷ []) ⌝ }
+{
+    if received < expected {
+        return YuvError::DestinationSizeMismatch(sizes(expected, received));
+    }
+    YuvError::Accepted
 }
 
 // Questions 5 and 6 of a destination of `length` elements, `row` being width·channels: the length, then the stride.

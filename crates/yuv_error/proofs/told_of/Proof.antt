@@ -101,6 +101,24 @@ enum-told-8 c = search needs
 refused-requires-8 : tie.Need-refused-requires-8
 refused-requires-8 c κs = search needs
 
+enum-told-9 : tie.Need-enum-told-9
+enum-told-9 c = search needs
+
+refused-requires-9 : tie.Need-refused-requires-9
+refused-requires-9 c κs = search needs
+
+enum-told-10 : tie.Need-enum-told-10
+enum-told-10 c = search needs
+
+refused-requires-10 : tie.Need-refused-requires-10
+refused-requires-10 c κs = search needs
+
+enum-told-11 : tie.Need-enum-told-11
+enum-told-11 c = search needs
+
+refused-requires-11 : tie.Need-refused-requires-11
+refused-requires-11 c κs = search needs
+
 returns : tie.Need-returns
 unfolding told
 returns c = rw (c .before .enum-told .given .1) (c .refused .ensures)
@@ -165,6 +183,18 @@ returns-16 : tie.Need-returns-16
 unfolding told
 returns-16 c = rw (c .before .enum-told8 .given .1) (c .refused8 .ensures)
 
+returns-17 : tie.Need-returns-17
+unfolding told
+returns-17 c = rw (c .before .enum-told9 .given .1) (c .refused9 .ensures)
+
+returns-18 : tie.Need-returns-18
+unfolding told
+returns-18 c = rw (c .before .enum-told10 .given .1) (c .refused10 .ensures)
+
+returns-19 : tie.Need-returns-19
+unfolding told
+returns-19 c = rw (c .before .enum-told11 .given .1) (c .refused11 .ensures)
+
 pub told-of-spec : {M : Type 1} → statement M
 told-of-spec =
     tie.close
@@ -201,6 +231,12 @@ told-of-spec =
     refused-requires-7
     enum-told-8
     refused-requires-8
+    enum-told-9
+    refused-requires-9
+    enum-told-10
+    refused-requires-10
+    enum-told-11
+    refused-requires-11
     returns
     returns-2
     returns-3
@@ -216,4 +252,7 @@ told-of-spec =
     returns-13
     returns-14
     returns-15
-    returns-16)
+    returns-16
+    returns-17
+    returns-18
+    returns-19)
