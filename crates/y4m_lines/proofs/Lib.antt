@@ -1,0 +1,4 @@
+pub mod Fields
+pub mod OneLine
+pub mod HeaderLaws
+pub mod WrittenHeader
