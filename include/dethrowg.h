@@ -13,9 +13,9 @@
  *
  * A buffer is a pointer and the length that follows it. Every function counts on this, also where
  * it refuses, and no question tests it: the pointer is aligned for its element and not null, even
- * at length 0; all elements up to the length can be read, and written in a destination that is
- * converted into, also those that the picture does not need; that destination overlaps no plane;
- * and no one else writes to the buffers during the call. Planes may overlap each other.
+ * at length 0; all elements up to the length can be read, and written where the pointer is not to
+ * const, also those that the picture does not need; such a buffer overlaps no other; and no one else
+ * writes to the buffers during the call. Buffers that are only read may overlap each other.
  *
  * Threads. No pointer is kept after the call, and nothing else is kept between calls. So all
  * functions may run in several threads at once, also on the same planes, as long as no one writes
@@ -43,6 +43,11 @@
  *    which may show as a reddish edge; matched, they take it as Cb.
  *  - SMPTE 240 at 8 bits. As in the source the weights of red and blue are exchanged; matched, they
  *    are 0.212 and 0.087. At 10 and 12 bits they stand right in both modes.
+ *
+ * Streams. dethrowg_y4m_* read and write YUV4MPEG2 (Y4M) streams, which lie in memory as a whole: one
+ * header line, then frames, each a line and the samples of Y, U and V without padding, uint16_t low
+ * byte first. C may be 420jpeg, 422, 420p10, 422p10, 420p12 or 422p12, and is 420jpeg where it is
+ * absent. Samples of 10 and 12 bits stand in the low bits (DETHROWG_LOW_BITS).
  */
 #ifndef DETHROWG_H
 #define DETHROWG_H
@@ -141,6 +146,12 @@ enum dethrowg_number {
                                           float above 0, and are the two green coefficients together
                                           at most 32767? */
     DETHROWG_NO_SUCH_ROW = 14,         /* is the row below the height? */
+    DETHROWG_STREAM_MALFORMED = 16,    /* streams: is the header line well formed, does the place lie
+                                          after it and not past the stream's end, and does a
+                                          well-formed frame line stand there? */
+    DETHROWG_STREAM_UNKNOWN = 17,      /* streams: is C one of the six, of the element type of the
+                                          planes, and are both sides 1 to 16384? */
+    DETHROWG_FRAME_CUT = 18,           /* streams: does the stream hold the whole frame? */
     DETHROWG_FIRST_ROW_UNUSABLE = 19   /* bands: is the first row even and below the height, or the
                                           height itself? */
 };
@@ -175,6 +186,22 @@ typedef struct {
 typedef struct {
     uint64_t number, expected, received, start, length;
 } dethrowg_part;
+
+/* The answer to a call that reads a stream. Where the header meets neither 16 nor 17 it has the sides,
+ * the sampling and the depth, also if the call is refused for something else; otherwise they are 0.
+ * found is 1 where a frame was read; then next is the place after it, where the next call reads. With
+ * found 0, next is the place that was given: the call was refused, or number is 0 and the stream
+ * ended there. */
+typedef struct {
+    uint64_t number, expected, received, next;
+    uint32_t width, height, sampling, depth, found;
+} dethrowg_y4m_frame;
+
+/* The answer to a call that writes a part of a stream: written tells how many bytes, 0 where number is
+ * not 0. */
+typedef struct {
+    uint64_t number, expected, received, written;
+} dethrowg_written;
 
 /* The settings that a conversion with the same codes uses. Asks what concerns the codes alone: 1, 2
  * with the depths of both element types, and 13. So an accepted conversion always has them. */
@@ -240,6 +267,55 @@ dethrowg_part dethrowg_chroma_row16(
     uint32_t sampling, uint32_t plane, uint32_t width, uint32_t height,
     const uint16_t *u, size_t u_len, uint32_t u_stride,
     const uint16_t *v, size_t v_len, uint32_t v_stride, uint32_t row);
+
+/* The header of a stream: what planes to lend. Asks 16 of the header line, then 17 with the depths of
+ * both element types. next is the place of the first frame line, 0 where number is not; found is 0. */
+dethrowg_y4m_frame dethrowg_y4m_header(const uint8_t *stream, size_t len);
+
+/* Reads the frame whose line stands at a place of the stream, 0 standing for the first one. Asks 16, 17
+ * and 18, then 7 to 12 of the lent planes, with the header's sides. Where the stream ends at the place
+ * no frame line is judged: with a header that meets neither 16 nor 17 number is 0 and found is 0,
+ * whatever planes are lent. Where found is 1 the planes hold the frame's samples at their rows and
+ * columns and all else in them is kept; otherwise they are as they were. The planes may not overlap
+ * each other nor the stream.
+ *
+ *     uint64_t place = 0;
+ *     dethrowg_y4m_frame f;
+ *     while ((f = dethrowg_y4m_read8(stream, len, place, y, ...)).found) {
+ *         place = f.next;
+ *         convert(y, u, v);
+ *     }
+ *     if (f.number != DETHROWG_ACCEPTED) ... the stream is damaged from place on */
+dethrowg_y4m_frame dethrowg_y4m_read8(
+    const uint8_t *stream, size_t len, uint64_t place,
+    uint8_t *y, size_t y_len, uint32_t y_stride, uint8_t *u, size_t u_len, uint32_t u_stride,
+    uint8_t *v, size_t v_len, uint32_t v_stride);
+
+/* The same for depths 10 and 12. */
+dethrowg_y4m_frame dethrowg_y4m_read16(
+    const uint8_t *stream, size_t len, uint64_t place,
+    uint16_t *y, size_t y_len, uint32_t y_stride, uint16_t *u, size_t u_len, uint32_t u_stride,
+    uint16_t *v, size_t v_len, uint32_t v_stride);
+
+/* Writes the header of a stream at the begin of out: W, H and C, 33 bytes at most. Asks 1, 2 of the
+ * depth, 3, 4, then 5 of the output's length (bytes needed, out_len). The rest of out is kept. */
+dethrowg_written dethrowg_y4m_write_header(
+    uint32_t sampling, uint32_t depth, uint32_t width, uint32_t height, uint8_t *out, size_t out_len);
+
+/* Writes a frame at the begin of out: its line, 6 bytes, and the samples as they are. Asks 1, 2 of the
+ * depth, 3, 4, 7 to 12, then 5. What a header call and frame calls of the same sampling, depth and
+ * sides wrote, one after the other, is a stream that reads back as the same samples. out may not
+ * overlap a plane. */
+dethrowg_written dethrowg_y4m_write_frame8(
+    uint32_t sampling, uint32_t depth, dethrowg_image image,
+    const uint8_t *y, size_t y_len, const uint8_t *u, size_t u_len, const uint8_t *v, size_t v_len,
+    uint8_t *out, size_t out_len);
+
+/* The same for depths 10 and 12. Samples above the depth's largest are written as they are. */
+dethrowg_written dethrowg_y4m_write_frame16(
+    uint32_t sampling, uint32_t depth, dethrowg_image image,
+    const uint16_t *y, size_t y_len, const uint16_t *u, size_t u_len, const uint16_t *v, size_t v_len,
+    uint8_t *out, size_t out_len);
 
 #ifdef __cplusplus
 }

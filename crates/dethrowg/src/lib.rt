@@ -1,14 +1,21 @@
 // The exported C functions: the public entries, by C names, for hosts that link the static library (include/dethrowg.h).
 // Each hands on to one entry and promises what that entry promises. Nothing is asked of the caller beyond what the header says of pointers.
 ghost use mathlib.Core.Path.{_≡_};
+ghost use lib.ListN.{length};
 ghost use Rattle.yuv_support.specs.Settings.{depths8, depths16};
 ghost use Rattle.yuv_support.specs.Distance.{AnySamples, WithinIfLow};
 ghost use Rattle.yuv_support.specs.Conversion.{answerTo, clippedAfter, destinationAfter, Demand3After, answerToBand, rowsAfter, clippedAfterBand, destinationAfterBand, Demand3AfterBand};
 ghost use Rattle.yuv_error.specs.Told.{asReport, asBandReport};
 ghost use Rattle.settings_used.specs.Used.{settingsUsedOf};
 ghost use Rattle.row_readers.specs.Readers.{extentOf, rowPlace, chromaRowPlace};
+ghost use Rattle.y4m_planes.specs.declared.Element.the-variants.{Byte, Word};
+ghost use Rattle.y4m_frames.specs.Questions.{lengthsOf, strides};
+ghost use Rattle.y4m.specs.Reading.{headerTold, frameTold, yAfter, uAfter, vAfter};
+ghost use Rattle.y4m.specs.Writing.{headerWritten, afterHeader, frameWritten, afterFrame};
 use row_readers::Part;
 use settings_used::SettingsUsed;
+use y4m::Written;
+use y4m::Y4mFrame;
 use yuv_error::BandReport;
 use yuv_error::Report;
 use yuv_support::Codes;
@@ -218,4 +225,101 @@ pub extern "C" fn dethrowg_chroma_row16(
         v_stride,
         row,
     )
+}
+
+// The header of a YUV4MPEG2 stream.
+#[no_mangle]
+pub extern "C" fn dethrowg_y4m_header(stream: &[u8]) -> Y4mFrame
+    ensures { λ r. ⌜ r ≡ headerTold (now (stream .entry)) ⌝ }
+{
+    y4m::header(stream)
+}
+
+// The frame at a place of a stream, into planes of bytes.
+#[no_mangle]
+pub extern "C" fn dethrowg_y4m_read8(
+    stream: &[u8],
+    place: u64,
+    y: &mut [u8],
+    y_stride: u32,
+    u: &mut [u8],
+    u_stride: u32,
+    v: &mut [u8],
+    v_stride: u32,
+) -> Y4mFrame
+    ensures { λ r. ⌜ r ≡ frameTold Byte (now (stream .entry)) place (strides «y_stride» «u_stride» «v_stride») (lengthsOf (now (y .entry)) (now (u .entry)) (now (v .entry))) ⌝ }
+    ensures { λ _. ⌜ now (y .exit) ≡ yAfter Byte (now (stream .entry)) place (strides «y_stride» «u_stride» «v_stride») (lengthsOf (now (y .entry)) (now (u .entry)) (now (v .entry))) (now (y .entry)) ⌝ }
+    ensures { λ _. ⌜ now (u .exit) ≡ uAfter Byte (now (stream .entry)) place (strides «y_stride» «u_stride» «v_stride») (lengthsOf (now (y .entry)) (now (u .entry)) (now (v .entry))) (now (u .entry)) ⌝ }
+    ensures { λ _. ⌜ now (v .exit) ≡ vAfter Byte (now (stream .entry)) place (strides «y_stride» «u_stride» «v_stride») (lengthsOf (now (y .entry)) (now (u .entry)) (now (v .entry))) (now (v .entry)) ⌝ }
+{
+    y4m::read8(stream, place, y, y_stride, u, u_stride, v, v_stride)
+}
+
+// The frame at a place of a stream, into u16 planes.
+#[no_mangle]
+pub extern "C" fn dethrowg_y4m_read16(
+    stream: &[u8],
+    place: u64,
+    y: &mut [u16],
+    y_stride: u32,
+    u: &mut [u16],
+    u_stride: u32,
+    v: &mut [u16],
+    v_stride: u32,
+) -> Y4mFrame
+    ensures { λ r. ⌜ r ≡ frameTold Word (now (stream .entry)) place (strides «y_stride» «u_stride» «v_stride») (lengthsOf (now (y .entry)) (now (u .entry)) (now (v .entry))) ⌝ }
+    ensures { λ _. ⌜ now (y .exit) ≡ yAfter Word (now (stream .entry)) place (strides «y_stride» «u_stride» «v_stride») (lengthsOf (now (y .entry)) (now (u .entry)) (now (v .entry))) (now (y .entry)) ⌝ }
+    ensures { λ _. ⌜ now (u .exit) ≡ uAfter Word (now (stream .entry)) place (strides «y_stride» «u_stride» «v_stride») (lengthsOf (now (y .entry)) (now (u .entry)) (now (v .entry))) (now (u .entry)) ⌝ }
+    ensures { λ _. ⌜ now (v .exit) ≡ vAfter Word (now (stream .entry)) place (strides «y_stride» «u_stride» «v_stride») (lengthsOf (now (y .entry)) (now (u .entry)) (now (v .entry))) (now (v .entry)) ⌝ }
+{
+    y4m::read16(stream, place, y, y_stride, u, u_stride, v, v_stride)
+}
+
+// The header of a stream, written.
+#[no_mangle]
+pub extern "C" fn dethrowg_y4m_write_header(
+    sampling: u32,
+    depth: u32,
+    width: u32,
+    height: u32,
+    out: &mut [u8],
+) -> Written
+    ensures { λ r. ⌜ r ≡ headerWritten sampling depth width height (length (now (out .entry))) ⌝ }
+    ensures { λ _. ⌜ now (out .exit) ≡ afterHeader sampling depth width height (now (out .entry)) ⌝ }
+{
+    y4m::write_header(sampling, depth, width, height, out)
+}
+
+// A frame of byte planes, written.
+#[no_mangle]
+pub extern "C" fn dethrowg_y4m_write_frame8(
+    sampling: u32,
+    depth: u32,
+    image: YuvPlanarImage,
+    y: &[u8],
+    u: &[u8],
+    v: &[u8],
+    out: &mut [u8],
+) -> Written
+    ensures { λ r. ⌜ r ≡ frameWritten Byte sampling depth image (lengthsOf (now (y .entry)) (now (u .entry)) (now (v .entry))) (length (now (out .entry))) ⌝ }
+    ensures { λ _. ⌜ now (out .exit) ≡ afterFrame Byte sampling depth image (lengthsOf (now (y .entry)) (now (u .entry)) (now (v .entry))) (now (y .entry)) (now (u .entry)) (now (v .entry)) (now (out .entry)) ⌝ }
+{
+    y4m::write_frame8(sampling, depth, image, y, u, v, out)
+}
+
+// A frame of u16 planes, written.
+#[no_mangle]
+pub extern "C" fn dethrowg_y4m_write_frame16(
+    sampling: u32,
+    depth: u32,
+    image: YuvPlanarImage,
+    y: &[u16],
+    u: &[u16],
+    v: &[u16],
+    out: &mut [u8],
+) -> Written
+    ensures { λ r. ⌜ r ≡ frameWritten Word sampling depth image (lengthsOf (now (y .entry)) (now (u .entry)) (now (v .entry))) (length (now (out .entry))) ⌝ }
+    ensures { λ _. ⌜ now (out .exit) ≡ afterFrame Word sampling depth image (lengthsOf (now (y .entry)) (now (u .entry)) (now (v .entry))) (now (y .entry)) (now (u .entry)) (now (v .entry)) (now (out .entry)) ⌝ }
+{
+    y4m::write_frame16(sampling, depth, image, y, u, v, out)
 }
