@@ -11,6 +11,16 @@ use Rattle.yuv_support.specs.Picture.{lettersOf, channelsOf, valueOf, elementOf
 use Rattle.yuv_support.specs.Questions.{verdict, questionsOf, settingsQuestions}
 use Rattle.yuv_support.specs.Conversion.{answerTo, clippedAfter, answerToBand, rowsAfter, destinationAfterBand}
 use Rattle.settings_used.specs.Used.{settingsUsedOf}
+use Rattle.sheet_writing.specs.Text.{joined, leadingDigit, decimalText}
+use Rattle.sheet_numbers.specs.Numbers.{decimal, allBelow}
+use Rattle.y4m_text.specs.Write.{nameOf, headerText}
+use Rattle.y4m_lines.specs.Lines.{before, isLine, fields, noneEmpty}
+use Rattle.y4m_lines.specs.Header.{named, isNumber, isSide, sideOf, formatOf, isColour, colourOf, isHeader, widthOf, heightOf, formatIn, isFrameLine}
+use Rattle.y4m_planes.specs.Planes.{sizeOf, bytesOf, sampleAt, rowBytes, planeBytes, planeRead}
+use Rattle.y4m_frames.specs.Stream.{isKnown, endsAt, isPlace}
+use Rattle.y4m_frames.specs.Questions.{frameQuestions, frameAnswer, isRead}
+use Rattle.y4m.specs.Reading.{headerQuestions, headerTold, frameTold, yAfter, uAfter, vAfter}
+use Rattle.y4m.specs.Writing.{writeHeaderAnswer, headerWritten, afterHeader, frameText, writeFrameAnswer, frameWritten, afterFrame}
 use Rattle.marked_cases.specs.Marked.{Marked}
 use Rattle.marked_cases.proofs.Sheet.{marked-sheet}
 
@@ -22,6 +32,11 @@ unfolding maxOf biasY biasC rangeY rangeC unpacked weightR weightB weightG weigh
     componentAt valueOf elementOf overlay band bandRows answerToBand rowsAfter destinationAfterBand
     lettersOf channelsOf verdict questionsOf settingsQuestions settingsUsedOf
     ofInt mul sub div le
+    joined leadingDigit decimalText decimal allBelow nameOf headerText
+    before isLine fields noneEmpty named isNumber isSide sideOf formatOf isColour colourOf isHeader widthOf heightOf formatIn isFrameLine
+    sizeOf bytesOf sampleAt rowBytes planeBytes planeRead isKnown endsAt isPlace frameQuestions frameAnswer isRead
+    headerQuestions headerTold frameTold yAfter uAfter vAfter
+    writeHeaderAnswer headerWritten afterHeader frameText writeFrameAnswer frameWritten afterFrame
 marked = record {
   sheet = marked-sheet;
   sheet-pixels = (refl, refl);
@@ -40,6 +55,18 @@ marked = record {
     refl,
   );
   largest-sides = (refl, refl, refl);
+  header-written = (refl, refl);
+  header-output = (refl, refl, refl, refl);
+  header-formats = (refl, refl);
+  header-malformed = (refl, refl, refl);
+  longest-line = (refl, refl, refl);
+  header-unknown = (refl, refl, refl, refl);
+  frame-read = (refl, refl);
+  low-byte-first = (refl, refl);
+  frame-short = (refl, refl);
+  frame-line = (refl, refl, refl, refl, refl);
+  no-further-frame = (refl, refl, refl);
+  frame-written = (refl, refl);
   sheet-clipped = refl;
   limited-bt709-clipped = refl;
   refused-clipped = refl;

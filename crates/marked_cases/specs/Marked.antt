@@ -3,7 +3,7 @@
 use Prim.Native.Nat.{ℕ, _*_}
 use mathlib.Core.Path.{_≡_}
 use mathlib.Core.Bool.{false}
-use mathlib.Core.List.{List, [], _∷_}
+use mathlib.Core.List.{List, [], _∷_, _++_}
 use lib.Ieee.{Float, binary32, round}
 use lib.ListN.{length, replicate}
 use Rattle.yuv_support.specs.declared.YuvRange.{YuvRange}
@@ -30,7 +30,16 @@ use Rattle.yuv_support.specs.Conversion.{clippedAfter, destinationAfterBand}
 use Rattle.yuv_error.specs.Told.{asTold}
 use Rattle.sheet_text.specs.Sheet.{sheetOf}
 use Rattle.settings_used.specs.Used.{refusal, settingsUsedOf}
+use Rattle.y4m_text.specs.Write.{headerText}
+use Rattle.y4m_planes.specs.declared.Element.{Element}
+use Rattle.y4m_planes.specs.declared.Element.the-variants.{Byte, Word}
+use Rattle.y4m_frames.specs.Questions.{lengthsOf, strides}
+use Rattle.y4m.specs.declared.Y4mFrame.{Y4mFrame}
+use Rattle.y4m.specs.declared.Written.{Written}
+use Rattle.y4m.specs.Reading.{headerTold, frameTold, yAfter, uAfter, vAfter}
+use Rattle.y4m.specs.Writing.{headerWritten, afterHeader, frameWritten, afterFrame}
 use Rattle.marked_cases.specs.Sheet.{markedInput, markedOutput}
+use Rattle.marked_cases.specs.Streams.{word, w0, w2, w16384, w16385, h1, h2, c420, c420jpeg, c422, c422p10, passedOver, ended, header2x2, header1x1, frameWord, samplesShort, samples, frame2x2, frame1x1}
 
 -- the settings of a mode, a depth, a range and a matrix; sampling, order and packing have no part in a component of samples that are given
 abbrev pub settingIn : YuvMode → ℕ → YuvRange → YuvStandardMatrix → Settings
@@ -134,6 +143,46 @@ counts below above = record { below = below; above = above }
 abbrev pub clippedOn : Codes → List ℕ → List ℕ → List ℕ → ℕ → Clipped
 clippedOn c y u v n = clippedAfter depths8 c (image (length y) 1) y u v (length y * 3) (replicate n 0)
 
+-- ---- a stream
+
+-- the number, next and found, then what the header says: width, height, sampling, depth
+abbrev pub answer : ℕ → ℕ → ℕ → ℕ → ℕ → ℕ → ℕ → Y4mFrame
+answer number next found width height sampling depth = record {
+  number = number;
+  expected = 0;
+  received = 0;
+  next = next;
+  width = width;
+  height = height;
+  sampling = sampling;
+  depth = depth;
+  found = found;
+}
+
+-- the same of a header that meets 16 or 17
+abbrev pub nothing : ℕ → ℕ → Y4mFrame
+nothing number next = answer number next 0 0 0 0 0
+
+-- each of the three planes that are lent for a frame, with the strides 3, 2 and 2
+abbrev pub lent : List ℕ
+lent = replicate 5 7
+
+abbrev pub readOn : Element → List ℕ → ℕ → Y4mFrame
+readOn e s place = frameTold e s place (strides 3 2 2) (lengthsOf lent lent lent)
+
+-- Y, U and V after the call
+abbrev pub planesAfter : Element → List ℕ → ℕ → List (List ℕ)
+planesAfter e s place =
+    yAfter e s place (strides 3 2 2) (lengthsOf lent lent lent) lent
+    ∷ uAfter e s place (strides 3 2 2) (lengthsOf lent lent lent) lent
+    ∷ vAfter e s place (strides 3 2 2) (lengthsOf lent lent lent) lent ∷ []
+
+abbrev pub kept : List (List ℕ)
+kept = lent ∷ lent ∷ lent ∷ []
+
+abbrev pub written : ℕ → ℕ → ℕ → ℕ → Written
+written number expected received bytes = record { number = number; expected = expected; received = received; written = bytes }
+
 -- ---- the table
 
 pub record Marked : Type 0 where
@@ -181,7 +230,69 @@ pub record Marked : Type 0 where
       (verdictOn (codes 8 1 0 (tenths 0)) 16384 16384 ≡ accepted)
       × (verdictOn (codes 8 1 0 (tenths 0)) 16385 16384 ≡ refused 4)
       × (verdictOn (codes 8 1 0 (tenths 0)) 16384 16385 ≡ refused 4)
-  -- document 02, slip 3: "the marked sheet ends with `clipped 1 0`"; `sheet` has its last line
+  -- document 02, slip 2: "W, H and C in this order, C always given, no leading zeros"
+  pub header-written :
+      (headerText 0 8 2 2 ≡ word ++ w2 ++ h2 ++ c420jpeg ++ ended)
+      × (headerText 1 10 16384 1 ≡ word ++ w16384 ++ h1 ++ c422p10 ++ ended)
+  -- "Each tells the bytes written, 0 on a refusal"; all else in the output is kept
+  pub header-output :
+      (headerWritten 0 8 2 2 26 ≡ written 0 0 0 25)
+      × (afterHeader 0 8 2 2 (replicate 26 7) ≡ word ++ w2 ++ h2 ++ c420jpeg ++ ended ++ 7 ∷ [])
+      × (headerWritten 0 8 2 2 24 ≡ written 5 25 24 0)
+      × (afterHeader 0 8 2 2 (replicate 24 7) ≡ replicate 24 7)
+  -- "C .. is 420jpeg if absent"; else it is told by its name
+  pub header-formats :
+      (headerTold header2x2 ≡ answer 0 16 0 2 2 0 8)
+      × (headerTold (word ++ w16384 ++ h1 ++ c422p10 ++ ended) ≡ answer 0 28 0 16384 1 1 10)
+  -- "W and H are needed"; "A W, H or C repeated in the header, or an empty field in either line, is malformed"
+  pub header-malformed :
+      (headerTold (word ++ w2 ++ ended) ≡ nothing 16 0)
+      × (headerTold (word ++ w2 ++ h2 ++ c422 ++ c422 ++ ended) ≡ nothing 16 0)
+      × (headerTold (word ++ w2 ++ h2 ++ passedOver 0 ++ ended) ≡ nothing 16 0)
+  -- "hold at most 256 bytes with it; a line not so ended is malformed"
+  pub longest-line :
+      (headerTold (word ++ w2 ++ h2 ++ passedOver 239 ++ ended) ≡ answer 0 256 0 2 2 0 8)
+      × (headerTold (word ++ w2 ++ h2 ++ passedOver 240 ++ ended) ≡ nothing 16 0)
+      × (headerTold (word ++ w2 ++ h2) ≡ nothing 16 0)
+  -- "then 17 for another C, a C of another element width than the lent planes or a side outside 1 to 16,384"
+  pub header-unknown :
+      (headerTold (word ++ w2 ++ h2 ++ c420 ++ ended) ≡ nothing 17 0)
+      × (headerTold (word ++ w0 ++ h2 ++ ended) ≡ nothing 17 0)
+      × (headerTold (word ++ w16385 ++ h2 ++ ended) ≡ nothing 17 0)
+      × (readOn Word (header2x2 ++ frame2x2) 0 ≡ nothing 17 0)
+  -- "Planes follow unpadded, Y, U, V"; "all else that was lent is kept"
+  pub frame-read :
+      (readOn Byte (header2x2 ++ frame2x2) 0 ≡ answer 0 28 1 2 2 0 8)
+      × (planesAfter Byte (header2x2 ++ frame2x2) 16
+      ≡ (1 ∷ 2 ∷ 7 ∷ 3 ∷ 4 ∷ []) ∷ (5 ∷ 7 ∷ 7 ∷ 7 ∷ 7 ∷ []) ∷ (6 ∷ 7 ∷ 7 ∷ 7 ∷ 7 ∷ []) ∷ [])
+  -- "u16 samples low byte first"
+  pub low-byte-first :
+      (readOn Word (header1x1 ++ frame1x1) 0 ≡ answer 0 36 1 1 1 0 10)
+      × (planesAfter Word (header1x1 ++ frame1x1) 0
+      ≡ (513 ∷ 7 ∷ 7 ∷ 7 ∷ 7 ∷ []) ∷ (3 ∷ 7 ∷ 7 ∷ 7 ∷ 7 ∷ []) ∷ (4 ∷ 7 ∷ 7 ∷ 7 ∷ 7 ∷ []) ∷ [])
+  -- "18 for a frame that ends early": the last byte is missing
+  pub frame-short :
+      (readOn Byte (header2x2 ++ frameWord ++ ended ++ samplesShort) 16 ≡ answer 18 16 0 2 2 0 8)
+      × (planesAfter Byte (header2x2 ++ frameWord ++ ended ++ samplesShort) 16 ≡ kept)
+  -- "FRAME is followed by byte 10 or a space": not by an S, which is 16 before 17 too; "a place inside the header line or past the stream's end
+  -- is 16"
+  pub frame-line :
+      (readOn Byte (header2x2 ++ frameWord ++ passedOver 1 ++ ended ++ samples) 0 ≡ answer 0 30 1 2 2 0 8)
+      × (readOn Byte (header2x2 ++ frameWord ++ 83 ∷ ended ++ samples) 0 ≡ answer 16 0 0 2 2 0 8)
+      × (readOn Word (header2x2 ++ frameWord ++ 83 ∷ ended ++ samples) 0 ≡ nothing 16 0)
+      × (readOn Byte (header2x2 ++ frame2x2) 15 ≡ answer 16 15 0 2 2 0 8)
+      × (readOn Byte (header2x2 ++ frame2x2) 29 ≡ answer 16 29 0 2 2 0 8)
+  -- "Where the stream ends at the place given .. the answer is 0 and "no further frame""
+  pub no-further-frame :
+      (readOn Byte (header2x2 ++ frame2x2) 28 ≡ answer 0 28 0 2 2 0 8)
+      × (readOn Byte header2x2 0 ≡ answer 0 0 0 2 2 0 8)
+      × (planesAfter Byte header2x2 0 ≡ kept)
+  -- "FRAME alone on its line, samples as they are"
+  pub frame-written :
+      let l = lengthsOf (1 ∷ 2 ∷ 3 ∷ 4 ∷ []) (5 ∷ []) (6 ∷ []) in
+      (frameWritten Byte 0 8 (image 2 2) l 12 ≡ written 0 0 0 12)
+      × (afterFrame Byte 0 8 (image 2 2) l (1 ∷ 2 ∷ 3 ∷ 4 ∷ []) (5 ∷ []) (6 ∷ []) (replicate 12 7) ≡ frame2x2)
+  -- slip 3: "the marked sheet ends with `clipped 1 0`"; `sheet` has its last line
   pub sheet-clipped : clippedOn (codes 8 1 0 (tenths 0)) (100 ∷ 50 ∷ []) (128 ∷ []) (228 ∷ []) 6 ≡ counts 1 0
   -- of limited BT.709, neutral, Y 0, 16, 235, 255 the first pixel lies below 0 and the last above 255; a quotient of 0 or 255 is not clipped
   pub limited-bt709-clipped :
