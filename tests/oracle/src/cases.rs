@@ -65,7 +65,7 @@ pub fn planes<T: Element>(random: &mut Random, kind: Samples, q: &Request) -> Pl
         Samples::Within | Samples::Mixed | Samples::Any => bits,
         Samples::Extreme => ends[usize::from(bits % 8)] << shift | below[usize::from(bits / 8 % 2)],
     };
-    [q.y, q.u, q.v].map(|plane| {
+    q.planes().map(|plane| {
         let mut samples = elements(random, plane.len, element);
         if kind == Samples::Mixed && plane.len > 0 {
             for _ in 0..random.below(4) {
@@ -175,7 +175,8 @@ pub fn around_sides(
     q
 }
 
-fn strange(random: &mut Random, extent: Extent) -> Extent {
+/// An extent with another length and another stride.
+pub fn strange(random: &mut Random, extent: Extent) -> Extent {
     let len = random.pick(&[0, 1, extent.len / 2, extent.len, extent.len + 100]);
     let stride = random.pick(&[0, 1, extent.stride, 1 << 31, u32::MAX]);
     Extent { len, stride }
@@ -221,8 +222,8 @@ pub fn every_setting<T: Element>(packing: u32, mode: u32) -> Vec<Codes> {
     all
 }
 
-const DEPTHS: [u32; 15] = [0, 1, 7, 8, 9, 10, 11, 12, 13, 14, 16, 32, 264, 266, u32::MAX];
-const SAMPLINGS: [u32; 6] = [0, 1, 2, 3, 256, u32::MAX];
+pub const DEPTHS: [u32; 15] = [0, 1, 7, 8, 9, 10, 11, 12, 13, 14, 16, 32, 264, 266, u32::MAX];
+pub const SAMPLINGS: [u32; 6] = [0, 1, 2, 3, 256, u32::MAX];
 const ORDERS: [u32; 8] = [0, 1, 2, 3, 4, 5, 256, u32::MAX];
 const RANGES: [u32; 6] = [0, 1, 2, 3, 256, u32::MAX];
 const MATRICES: [u32; 13] = [0, 1, 2, 3, 4, 5, 6, 7, 8, 9, 256, 262, u32::MAX];

@@ -1,7 +1,7 @@
 //! Compares the proved library with the scalar Rust of yuvutils-rs, with document 01's questions and,
 //! where the Rust has nothing to compare, with a second reading of the documents: matched mode, what
-//! was clipped, and bands. The settings `packing` and `mode`, the counts `below` and `above` and bands
-//! are those of document 02, slips 1, 4, 3 and 5.
+//! was clipped, bands, and Y4M streams. The settings `packing` and `mode`, the counts `below` and
+//! `above`, bands and Y4M streams are those of document 02, slips 1, 4, 3, 5 and 2.
 
 pub mod cases;
 pub mod library;
@@ -9,9 +9,11 @@ pub mod model;
 pub mod random;
 pub mod reading;
 pub mod reference;
+pub mod streams;
 pub mod tally;
 #[cfg(feature = "level_a")]
 pub mod timing;
+pub mod y4m;
 
 /// What a conversion answers: 0, 0, 0 and what was clipped, or the first question that got a "no",
 /// and then 0 and 0.
@@ -58,6 +60,33 @@ pub struct Band {
     pub answer: Answer,
     pub rows: u64,
     pub next: u64,
+}
+
+/// What a call that reads a Y4M stream answers: the place after the frame, or the place that it was
+/// given; what the header says, 0s where it is refused; and whether a frame was read. Of the header
+/// alone the place is that of the first frame line, 0 where the header is refused.
+#[repr(C)]
+#[derive(Clone, Copy, Debug, Default, PartialEq, Eq)]
+pub struct Y4mFrame {
+    pub number: u64,
+    pub expected: u64,
+    pub received: u64,
+    pub next: u64,
+    pub width: u32,
+    pub height: u32,
+    pub sampling: u32,
+    pub depth: u32,
+    pub found: u32,
+}
+
+/// What a call that writes a part of a Y4M stream answers: how many bytes it wrote, 0 on a refusal.
+#[repr(C)]
+#[derive(Clone, Copy, Debug, Default, PartialEq, Eq)]
+pub struct Written {
+    pub number: u64,
+    pub expected: u64,
+    pub received: u64,
+    pub written: u64,
 }
 
 /// The settings that a conversion uses; all 0 beside a number other than 0.
@@ -120,6 +149,17 @@ pub struct Request {
     pub u: Extent,
     pub v: Extent,
     pub rgb: Extent,
+}
+
+impl Request {
+    /// The buffers of the Y, U and V planes.
+    pub fn planes(&self) -> [Extent; 3] {
+        [self.y, self.u, self.v]
+    }
+
+    pub fn strides(&self) -> [u32; 3] {
+        self.planes().map(|plane| plane.stride)
+    }
 }
 
 /// The samples of the Y, U and V planes.

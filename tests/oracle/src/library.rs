@@ -7,6 +7,9 @@ use crate::Part;
 use crate::{Answer, Planes, Request};
 use crate::{Codes, SettingsUsed};
 
+#[cfg(feature = "y4m")]
+pub mod y4m;
+
 extern "C" {
     fn dethrowg_coefficients(codes: Codes) -> SettingsUsed;
 }
@@ -29,7 +32,7 @@ struct Image {
 
 #[cfg(feature = "level_a")]
 fn image(q: &Request) -> Image {
-    let [y_stride, u_stride, v_stride] = [q.y, q.u, q.v].map(|plane| plane.stride);
+    let [y_stride, u_stride, v_stride] = q.strides();
     Image { width: q.width, height: q.height, y_stride, u_stride, v_stride }
 }
 

@@ -1,11 +1,12 @@
 //! Document 01's questions 1 to 14, with the packing and the mode of document 02's slips 1 and 4, and
 //! question 19 with the rows of a band of slip 5, written from their text. The Rust has no number for
-//! 1, 2, 4, 13, 14 and 19 and no bands; for the others this is a second opinion.
+//! 1, 2, 4, 13, 14 and 19 and no bands; for the others this is a second opinion. `src/y4m.rs` asks 1 to
+//! 4 and 7 to 12 of Y4M frames.
 use crate::{Answer, Band, Codes, Extent, Part, Request, SettingsUsed};
 
-type Asked = Result<(), Answer>;
+pub(crate) type Asked = Result<(), Answer>;
 
-fn ask(number: u64, yes: bool, expected: u64, received: u64) -> Asked {
+pub(crate) fn ask(number: u64, yes: bool, expected: u64, received: u64) -> Asked {
     let no = Answer { number, expected, received, ..Default::default() };
     if yes {
         Ok(())
@@ -27,10 +28,7 @@ fn conversion_asked(bits: u32, q: &Request) -> Asked {
     codes(if bits == 8 { &[8] } else { &[10, 12] }, &q.codes)?;
     sides(q.width, q.height)?;
     destination(q.rgb, q.codes.order, q.width, q.height)?;
-    plane(7, q.y, q.width, q.height)?;
-    let (width, height) = chroma_sides(q.codes.sampling, q.width, q.height);
-    plane(9, q.u, width, height)?;
-    plane(11, q.v, width, height)?;
+    planes(q.codes.sampling, (q.width, q.height), q.planes())?;
     weights(&q.codes)
 }
 
@@ -63,7 +61,7 @@ fn band_rows(height: u32, first: u32, limit: u32) -> u32 {
 }
 
 /// Questions 1 and 2, where `depths` are known.
-fn codes(depths: &[u32], c: &Codes) -> Asked {
+pub(crate) fn codes(depths: &[u32], c: &Codes) -> Asked {
     ask(1, c.sampling <= 1, 0, 0)?;
     let others = c.order <= 3 && c.range <= 1 && c.matrix <= 6 && c.mode <= 1;
     ask(2, depths.contains(&c.depth) && others && packing_known(c), 0, 0)
@@ -82,7 +80,7 @@ pub fn alone(depths: &[u32], c: &Codes) -> Option<&'static str> {
 }
 
 /// Questions 3 and 4.
-fn sides(width: u32, height: u32) -> Asked {
+pub(crate) fn sides(width: u32, height: u32) -> Asked {
     ask(3, width >= 1 && height >= 1, 0, 0)?;
     ask(4, width <= 16384 && height <= 16384, 0, 0)
 }
@@ -98,6 +96,14 @@ fn destination(rgb: Extent, order: u32, width: u32, height: u32) -> Asked {
     let needed = needed(rgb.stride, row, height);
     ask(5, rgb.len as u64 >= needed, needed, rgb.len as u64)?;
     ask(6, rgb.stride >= row, row.into(), rgb.stride.into())
+}
+
+/// Questions 7 to 12 of the Y, U and V planes.
+pub(crate) fn planes(sampling: u32, (width, height): (u32, u32), [y, u, v]: [Extent; 3]) -> Asked {
+    plane(7, y, width, height)?;
+    let (width, height) = chroma_sides(sampling, width, height);
+    plane(9, u, width, height)?;
+    plane(11, v, width, height)
 }
 
 /// Questions 7 and 8, 9 and 10, or 11 and 12.

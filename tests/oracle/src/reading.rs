@@ -84,7 +84,8 @@ pub fn convert_rows<T: Element>(
     clipped
 }
 
-fn place(stride: u32, row: u32, column: u32) -> usize {
+/// The place of a row's element in its buffer.
+pub(crate) fn place(stride: u32, row: u32, column: u32) -> usize {
     stride as usize * row as usize + column as usize
 }
 

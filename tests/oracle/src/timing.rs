@@ -7,6 +7,9 @@ use crate::{random::Random, reading, reference, Answer, Codes, Planes, Request};
 use std::hint::black_box;
 use std::time::Instant;
 
+#[cfg(feature = "y4m")]
+pub mod y4m;
+
 /// 8 bits, 4:2:0 to RGBA, limited BT.709.
 pub const FRAME: Codes = Codes {
     depth: 8,

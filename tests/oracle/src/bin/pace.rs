@@ -1,8 +1,12 @@
-//! Times frames against the scalar Rust, and in bands against the library's whole conversion: the
-//! quick program. `speed` measures more of the former.
+//! Times frames against the scalar Rust, in bands against the library's whole conversion, and Y4M frames
+//! against a copy: the quick program. `speed` measures more of the first.
 #[cfg(feature = "bands")]
 use oracle::timing::measure_bands;
+#[cfg(feature = "y4m")]
+use oracle::timing::y4m::{measure_y4m, Way};
 use oracle::timing::{measure, name, Content, Task, Times, FRAME};
+#[cfg(feature = "y4m")]
+use oracle::y4m::Form;
 use oracle::{tally::status, Codes};
 use std::process::ExitCode;
 
@@ -43,24 +47,51 @@ fn main() -> ExitCode {
         let measure = |task| measure_bands(task, BAND, ROUNDS);
         same &= table(&title, ["bands", "whole"], IN_BANDS, measure);
     }
-    println!("{}", if same { "all pixels and counts equal" } else { "PIXELS OR COUNTS DIFFER" });
+    #[cfg(feature = "y4m")]
+    {
+        same &= y4m();
+    }
+    println!("{}", if same { "all pixels, counts and samples equal" } else { "SOMETHING DIFFERS" });
     status(same)
 }
 
 /// Prints the times of two contenders, in their order, and the ratio; whether the pixels and the counts
 /// are equal.
 fn table(
-    title: &str, [first, second]: [&str; 2], (width, height, kinds): (u32, u32, &[Codes]),
+    title: &str, contenders: [&str; 2], (width, height, kinds): (u32, u32, &[Codes]),
     measure: impl Fn(Task) -> (Times, bool),
 ) -> bool {
-    println!("{title:36} {first:>8} {second:>8} {:>8}", "ratio");
+    heading(title, contenders);
     let mut all_same = true;
     for (content, word) in [(Content::Random, "random"), (Content::Smooth, "smooth")] {
         for codes in kinds.iter().filter(|c| c.depth == 8 || cfg!(feature = "level_b")) {
-            let (times, same) = measure(Task { codes: *codes, sides: (width, height), content });
-            let name = format!("{}, {word}", name(codes));
-            println!("{name:36} {:8.3} {:8.3} {:8.3}", times[0], times[1], times[0] / times[1]);
-            all_same &= same;
+            let task = Task { codes: *codes, sides: (width, height), content };
+            all_same &= line(&format!("{}, {word}", name(codes)), measure(task));
+        }
+    }
+    all_same
+}
+
+fn heading(title: &str, [first, second]: [&str; 2]) {
+    println!("{title:36} {first:>8} {second:>8} {:>8}", "ratio");
+}
+
+fn line(name: &str, (times, same): (Times, bool)) -> bool {
+    println!("{name:36} {:8.3} {:8.3} {:8.3}", times[0], times[1], times[0] / times[1]);
+    same
+}
+
+/// Frames of 1920 by 1080 read and written, beside a copy of their bytes; whether the samples are equal.
+/// To read 8 bits is to take at most 1.5 of the time of the copy.
+#[cfg(feature = "y4m")]
+fn y4m() -> bool {
+    heading("1920 by 1080, Y4M", ["ours", "copy"]);
+    let mut all_same = true;
+    for depth in [8, 10] {
+        let form = Form { sampling: 0, depth, width: 1920, height: 1080 };
+        for (way, word) in [(Way::Read, "read"), (Way::Write, "written")] {
+            let measured = measure_y4m(form, way, ROUNDS);
+            all_same &= line(&format!("{depth} bits, 4:2:0, {word}"), measured);
         }
     }
     all_same
