@@ -1,16 +1,16 @@
 -- From what was judged to what a reading call answers and leaves, at either element width.
 -- Assumes nothing.
-use mathlib.Core.Path.{_≡_, refl, sym, ap, _∙_}
+use mathlib.Core.Path.{_≡_, refl, sym, _∙_}
 use mathlib.Core.Bool.{Bool, true, false, cond, _&&_, and-eq-true-iff}
 use mathlib.Core.List.{List, _∷_}
-use Prim.Native.Nat.{ℕ, _+_, _*_, _≤_}
+use Prim.Native.Nat.{ℕ, _≤_}
 use native.Mathlib.Omega.{arith}
 use borrow.Author.Tests.{leb-true, eqb-true}
-use lib.Dec.{eqb, leb}
+use lib.Dec.{eqb}
 use lib.ListN.{length}
 use Rattle.yuv_support.specs.Settings.{samplingOf, depths}
 use Rattle.yuv_support.specs.Blend.{chromaWidth, chromaHeight}
-use Rattle.yuv_support.specs.Questions.{Verdict, verdict, ask}
+use Rattle.yuv_support.specs.Questions.{verdict, ask}
 use Rattle.yuv_support.proofs.Questions.{questionAt, each-holds}
 use Rattle.yuv_error.specs.declared.YuvError.the-variants.{Accepted, MalformedStream, UnknownStream}
 use Rattle.yuv_error.specs.Told.{told}
@@ -19,7 +19,7 @@ use Rattle.images.specs.Request.{constraints}
 use Rattle.y4m_lines.specs.declared.Header.{Header}
 use Rattle.y4m_lines.specs.Header.{isHeader, widthOf, heightOf, formatIn}
 use Rattle.y4m_planes.specs.declared.Element.{Element}
-use Rattle.y4m_planes.specs.Planes.{sizeOf, planeRead}
+use Rattle.y4m_planes.specs.Planes.{planeRead}
 use Rattle.y4m_frames.specs.declared.Strides.{Strides}
 use Rattle.y4m_frames.specs.declared.Judged.{Judged}
 use Rattle.y4m_frames.specs.Stream.{depthsOf, isKnown, endsAt, isPlace, samplesBegin, pastFrame, isWhole}

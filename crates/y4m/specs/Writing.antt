@@ -9,7 +9,7 @@ use lib.Seq.{sets}
 use Rattle.yuv_support.specs.declared.YuvPlanarImage.{YuvPlanarImage}
 use Rattle.yuv_support.specs.Settings.{among, samplingOf, depths}
 use Rattle.yuv_support.specs.Blend.{chromaWidth, chromaHeight}
-use Rattle.yuv_support.specs.Questions.{Question, Verdict, ask, atLeast, verdict, samplingKnown, sides}
+use Rattle.yuv_support.specs.Questions.{Verdict, ask, atLeast, verdict, samplingKnown, sides}
 use Rattle.images.specs.declared.Lengths.{Lengths}
 use Rattle.images.specs.Request.{constraints}
 use Rattle.y4m_text.specs.Write.{headerText, frameLine}

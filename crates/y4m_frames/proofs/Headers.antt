@@ -1,10 +1,10 @@
 -- What a header that was read says, and question 17 of it: sides above 16,384 are told as 16,385, which question 17 refuses alike.
 -- Assumes nothing.
-use mathlib.Core.Path.{_≡_, refl, sym, ap, _∙_}
+use mathlib.Core.Path.{_≡_, refl, ap, _∙_}
 use mathlib.Core.Bool.{Bool, true, false, cond, _&&_, and-eq-true-iff}
 use mathlib.Core.List.{List}
 use mathlib.Core.Logic.{_⊎_, inl, inr}
-use Prim.Native.Nat.{ℕ, _≤_, _<_, min}
+use Prim.Native.Nat.{ℕ, _≤_, _<_}
 use native.Mathlib.Omega.{arith}
 use borrow.Author.Tests.{eqb-true, le-leb, lt-leb}
 use lib.Dec.{leb}
@@ -13,7 +13,6 @@ use Rattle.yuv_support.specs.Questions.{verdict}
 use Rattle.yuv_support.proofs.Overlay.{below-or-not}
 use Rattle.images.proofs.Held.{Sides, sides-held}
 use Rattle.y4m_lines.specs.declared.Header.{Header}
-use Rattle.y4m_lines.specs.declared.HeaderLine.{HeaderLine}
 use Rattle.y4m_lines.specs.declared.HeaderLine.the-variants.{Formed, Malformed}
 use Rattle.y4m_lines.specs.Lines.{pastLine}
 use Rattle.y4m_lines.specs.Header.{isHeader, widthOf, heightOf, formatIn}

@@ -2,7 +2,6 @@
 -- Assumes nothing.
 use borrow.Author.Needs.{needs}
 use borrow.Author.Tests.{eq-eqb, ne-eqb}
-use mathlib.Core.Path.{sym}
 use Rattle.yuv_support.proofs.Tests.{or-false}
 use Rattle.y4m_frames.proofs.has_depth.Statement.{statement}
 use Rattle.y4m_frames.proofs.has_depth.Tie as tie
