@@ -131,7 +131,7 @@ fn widened(x: u8) -> u16
 }
 
 // Two samples as one word. z is 0, a number of run time, so that the compiler loads them whole.
-fn two(xs: &[u8], place: usize, z: u16) -> u16
+pub fn two(xs: &[u8], place: usize, z: u16) -> u16
     requires { ⌜ (place + 1 < length (now xs)) × (z ≡ 0) ⌝ }
     ensures { λ r. ⌜ (r % 256 ≡ getD (now (xs .entry)) place 0) × (r / 256 ≡ getD (now (xs .entry)) (place + 1) 0) ⌝ }
 {

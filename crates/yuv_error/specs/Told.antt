@@ -25,6 +25,7 @@ use Rattle.yuv_error.specs.declared.YuvError.the-variants.{
   UnknownStream,
   ShortFrame,
   UnusableFirstRow,
+  UnusablePlane,
 }
 use Rattle.yuv_error.specs.declared.Told.{Told}
 use Rattle.yuv_error.specs.declared.Converted.{Converted}
@@ -58,6 +59,7 @@ told MalformedStream = refused 16
 told UnknownStream = refused 17
 told ShortFrame = refused 18
 told UnusableFirstRow = refused 19
+told UnusablePlane = refused 22
 
 -- the three numbers as the struct that is handed out
 abbrev pub asTold : Verdict → Told

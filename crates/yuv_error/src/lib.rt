@@ -6,7 +6,7 @@ ghost use lib.Dec.{eqb};
 ghost use Rattle.yuv_support.specs.Counts.{unclipped};
 ghost use mathlib.Core.List.{_∷_, []};
 ghost use Rattle.yuv_support.specs.Questions.{verdict, atLeast, extent, sides, needed, destination, plane};
-ghost use Rattle.yuv_error.specs.Told.{told, faultTold, asTold, reported, bandReported};
+ghost use Rattle.yuv_error.specs.Told.{told, faultTold, asTold, asReport, reported, bandReported};
 use yuv_support::Clipped;
 
 // What was needed and what was there.
@@ -54,6 +54,8 @@ pub enum YuvError {
     ShortFrame,
     // 19
     UnusableFirstRow,
+    // 22
+    UnusablePlane,
 }
 
 // The same as numbers.
@@ -156,6 +158,7 @@ pub fn told_of(e: YuvError) -> Told
         YuvError::UnknownStream => refused(17),
         YuvError::ShortFrame => refused(18),
         YuvError::UnusableFirstRow => refused(19),
+        YuvError::UnusablePlane => refused(22),
     }
 }
 
@@ -173,6 +176,14 @@ pub fn report_of(c: Converted) -> Report
         below: clipped.below as u64,
         above: clipped.above as u64,
     }
+}
+
+// The same of a call that converts nothing, and so has no counts.
+pub fn answer_alone(answer: YuvError) -> Report
+    ensures { λ r. ⌜ r ≡ asReport (told answer) unclipped ⌝ }
+{
+    let clipped = Clipped { below: 0, above: 0 };
+    report_of(Converted { answer, clipped })
 }
 
 // The same of a band's answer, then the rows written and the next first row.

@@ -119,6 +119,12 @@ enum-told-11 c = search needs
 refused-requires-11 : tie.Need-refused-requires-11
 refused-requires-11 c κs = search needs
 
+enum-told-12 : tie.Need-enum-told-12
+enum-told-12 c = search needs
+
+refused-requires-12 : tie.Need-refused-requires-12
+refused-requires-12 c κs = search needs
+
 returns : tie.Need-returns
 unfolding told
 returns c = rw (c .before .enum-told .given .1) (c .refused .ensures)
@@ -195,6 +201,10 @@ returns-19 : tie.Need-returns-19
 unfolding told
 returns-19 c = rw (c .before .enum-told11 .given .1) (c .refused11 .ensures)
 
+returns-20 : tie.Need-returns-20
+unfolding told
+returns-20 c = rw (c .before .enum-told12 .given .1) (c .refused12 .ensures)
+
 pub told-of-spec : {M : Type 1} → statement M
 told-of-spec =
     tie.close
@@ -237,6 +247,8 @@ told-of-spec =
     refused-requires-10
     enum-told-11
     refused-requires-11
+    enum-told-12
+    refused-requires-12
     returns
     returns-2
     returns-3
@@ -255,4 +267,5 @@ told-of-spec =
     returns-16
     returns-17
     returns-18
-    returns-19)
+    returns-19
+    returns-20)
