@@ -12,7 +12,7 @@ use Rattle.yuv_support.specs.Questions.{needed, partOf}
 use Rattle.yuv_support.proofs.Rows.{painted-none, painted-length, part-length, part-at, row-fits, row-length, row-back}
 use Rattle.numerics.specs.Row.{at}
 use Rattle.numerics.proofs.Row.{row-as}
-use Rattle.weave_planes.specs.Woven.{Plane, elementAt, alternating, woven, ofU, ofV, unwoven}
+use Rattle.weave_planes.specs.Woven.{Plane, alternating, wovenAt, woven, ofU, ofV, unwovenAt, unwoven}
 use Rattle.weave_planes.specs.Fits.{RowsFit, PlanesFit}
 
 -- ---- the first r rows were written
@@ -69,12 +69,12 @@ module _ {f : ℕ → ℕ → ℕ} {n height : ℕ} {p : Plane} where
 -- a row of U and one of V, woven, are that row of the woven plane
 row-woven : (u v : Plane) (width r : ℕ) {u-row v-row : List ℕ} (xs : List ℕ) → u-row ≡ partOf (u .stride) r width (u .elements)
     → v-row ≡ partOf (v .stride) r width (v .elements) → length xs ≡ 2 * width
-    → rowOf (λ q. alternating (at u-row) (at v-row)) 0 xs ≡ rowOf (λ row. alternating (elementAt u row) (elementAt v row)) r xs
+    → rowOf (λ q. alternating (at u-row) (at v-row)) 0 xs ≡ rowOf (wovenAt u v) r xs
 unfolding alternating
 row-woven u v width r {u-row} {v-row} xs eu ev long =
-    row-as (alternating (at u-row) (at v-row)) (alternating (elementAt u r) (elementAt v r)) xs long same
+    row-as (alternating (at u-row) (at v-row)) (wovenAt u v r) xs long same
   where
-    same : (x : ℕ) → x < 2 * width → alternating (at u-row) (at v-row) x ≡ alternating (elementAt u r) (elementAt v r) x
+    same : (x : ℕ) → x < 2 * width → alternating (at u-row) (at v-row) x ≡ wovenAt u v r x
     same x h =
         let b : x / 2 < width = omega arith in
         rw (eu, ev, part-at (u .stride) r width (u .elements) (x / 2) b, part-at (v .stride) r width (v .elements) (x / 2) b)
@@ -83,7 +83,7 @@ row-woven u v width r {u-row} {v-row} xs eu ev long =
 pub record PlaneWoven (width height : ℕ) (u v uv : Plane) (xs : List ℕ) (r : ℕ) : Type 0 where
   pub u-room : (q : ℕ) → q < height → u .stride * q + width ≤ length (u .elements)
   pub v-room : (q : ℕ) → q < height → v .stride * q + width ≤ length (v .elements)
-  pub painting : Painting (λ row. alternating (elementAt u row) (elementAt v row)) (2 * width) height uv xs r
+  pub painting : Painting (wovenAt u v) (2 * width) height uv xs r
 
 module _ {width height : ℕ} {u v uv : Plane} where
   pub weave-begin : PlanesFit width height u v uv → PlaneWoven width height u v uv (uv .elements) 0
@@ -118,17 +118,17 @@ module _ {width height : ℕ} {u v uv : Plane} where
 
 -- what is taken out of a row of the woven plane is that row of U, or of V
 row-unwoven : (uv : Plane) (begin width r : ℕ) {row : List ℕ} (xs : List ℕ) → begin < 2 → row ≡ partOf (uv .stride) r (2 * width) (uv .elements)
-    → length xs ≡ width → rowOf (λ q x. at row (2 * x + begin)) 0 xs ≡ rowOf (λ row x. elementAt uv row (2 * x + begin)) r xs
+    → length xs ≡ width → rowOf (λ q x. at row (2 * x + begin)) 0 xs ≡ rowOf (unwovenAt begin uv) r xs
 row-unwoven uv begin width r {row} xs b e long =
-    row-as (λ x. at row (2 * x + begin)) (λ x. elementAt uv r (2 * x + begin)) xs long
+    row-as (λ x. at row (2 * x + begin)) (unwovenAt begin uv r) xs long
     (λ x h. rw e (part-at (uv .stride) r (2 * width) (uv .elements) (2 * x + begin) (omega arith)))
 
 -- the first r rows were taken apart; z is the number of run time
 pub record PlaneUnwoven (width height : ℕ) (uv u v : Plane) (z : ℕ) (us vs : List ℕ) (r : ℕ) : Type 0 where
   pub zero : z ≡ 0
   pub uv-room : (q : ℕ) → q < height → uv .stride * q + 2 * width ≤ length (uv .elements)
-  pub of-u : Painting (λ row x. elementAt uv row (2 * x + ofU)) width height u us r
-  pub of-v : Painting (λ row x. elementAt uv row (2 * x + ofV)) width height v vs r
+  pub of-u : Painting (unwovenAt ofU uv) width height u us r
+  pub of-v : Painting (unwovenAt ofV uv) width height v vs r
 
 module _ {width height : ℕ} {uv u v : Plane} {z : ℕ} where
   pub unweave-begin : PlanesFit width height u v uv → z ≡ 0 → PlaneUnwoven width height uv u v z (u .elements) (v .elements) 0

@@ -24,10 +24,12 @@ elementAt p row x = getD (p .elements) (p .stride * row + x) 0
 unfoldable pub alternating : (ℕ → ℕ) → (ℕ → ℕ) → ℕ → ℕ
 alternating u v x = cond (eqb (x % 2) 0) (u (x / 2)) (v (x / 2))
 
--- the woven plane: each row has the samples of that row of U and of V, 2·width elements; all else is kept
+abbrev pub wovenAt : Plane → Plane → ℕ → ℕ → ℕ
+wovenAt u v row = alternating (elementAt u row) (elementAt v row)
+
+-- the woven plane: each row has 2·width such elements; all else is kept
 unfoldable pub woven : ℕ → ℕ → Plane → Plane → Plane → List ℕ
-woven width height u v uv =
-    painted (λ row. alternating (elementAt u row) (elementAt v row)) (uv .stride) (2 * width) 0 height (uv .elements)
+woven width height u v uv = painted (wovenAt u v) (uv .stride) (2 * width) 0 height (uv .elements)
 
 -- where the samples of U and of V begin in a woven row
 abbrev pub ofU : ℕ
@@ -36,7 +38,10 @@ ofU = 0
 abbrev pub ofV : ℕ
 ofV = 1
 
--- the plane of the samples that begin there: each row has that row's; all else is kept
+-- sample x of a row of those that begin there
+abbrev pub unwovenAt : ℕ → Plane → ℕ → ℕ → ℕ
+unwovenAt begin uv row x = elementAt uv row (2 * x + begin)
+
+-- their plane: each row has `width` such samples; all else is kept
 unfoldable pub unwoven : ℕ → ℕ → ℕ → Plane → Plane → List ℕ
-unwoven begin width height uv p =
-    painted (λ row x. elementAt uv row (2 * x + begin)) (p .stride) width 0 height (p .elements)
+unwoven begin width height uv p = painted (unwovenAt begin uv) (p .stride) width 0 height (p .elements)
