@@ -3,6 +3,7 @@
 ghost use mathlib.Core.Path.{_≡_};
 ghost use lib.ListN.{length};
 ghost use Rattle.yuv_support.specs.Settings.{depths8, depths16};
+ghost use Rattle.yuv_support.specs.Counts.{unclipped};
 ghost use Rattle.yuv_support.specs.Distance.{AnySamples, WithinIfLow};
 ghost use Rattle.yuv_support.specs.Conversion.{answerTo, clippedAfter, destinationAfter, Demand3After, answerToBand, rowsAfter, clippedAfterBand, destinationAfterBand, Demand3AfterBand};
 ghost use Rattle.yuv_error.specs.Told.{asReport, asBandReport};
@@ -12,6 +13,8 @@ ghost use Rattle.y4m_planes.specs.declared.Element.the-variants.{Byte, Word};
 ghost use Rattle.y4m_frames.specs.Questions.{lengthsOf, strides};
 ghost use Rattle.y4m.specs.Reading.{headerTold, frameTold, yAfter, uAfter, vAfter};
 ghost use Rattle.y4m.specs.Writing.{headerWritten, afterHeader, frameWritten, afterFrame};
+ghost use Rattle.weave_planes.specs.Woven.{lent};
+ghost use Rattle.weave.specs.Weaving.{weaveAnswer, afterWeaving, uAfterUnweaving, vAfterUnweaving};
 use row_readers::Part;
 use settings_used::SettingsUsed;
 use y4m::Written;
@@ -322,4 +325,87 @@ pub extern "C" fn dethrowg_y4m_write_frame16(
     ensures { λ _. ⌜ now (out .exit) ≡ afterFrame Word sampling depth image (lengthsOf (now (y .entry)) (now (u .entry)) (now (v .entry))) (now (y .entry)) (now (u .entry)) (now (v .entry)) (now (out .entry)) ⌝ }
 {
     y4m::write_frame16(sampling, depth, image, y, u, v, out)
+}
+
+// U and V of bytes, woven into one plane.
+#[no_mangle]
+pub extern "C" fn dethrowg_weave8(
+    width: u32,
+    height: u32,
+    u: &[u8],
+    u_stride: u32,
+    v: &[u8],
+    v_stride: u32,
+    uv: &mut [u8],
+    uv_stride: u32,
+) -> Report
+    ensures { λ r. ⌜ r ≡ asReport (weaveAnswer width height (lent (now (u .entry)) «u_stride») (lent (now (v .entry)) «v_stride») (lent (now (uv .entry)) «uv_stride»)) unclipped ⌝ }
+    ensures { λ _. ⌜ now (uv .exit) ≡ afterWeaving width height (lent (now (u .entry)) «u_stride») (lent (now (v .entry)) «v_stride») (lent (now (uv .entry)) «uv_stride») ⌝ }
+{
+    yuv_error::answer_alone(weave::weave8(width, height, u, u_stride, v, v_stride, uv, uv_stride))
+}
+
+// A woven plane of bytes, taken apart into U and V.
+#[no_mangle]
+pub extern "C" fn dethrowg_unweave8(
+    width: u32,
+    height: u32,
+    uv: &[u8],
+    uv_stride: u32,
+    u: &mut [u8],
+    u_stride: u32,
+    v: &mut [u8],
+    v_stride: u32,
+) -> Report
+    ensures { λ r. ⌜ r ≡ asReport (weaveAnswer width height (lent (now (u .entry)) «u_stride») (lent (now (v .entry)) «v_stride») (lent (now (uv .entry)) «uv_stride»)) unclipped ⌝ }
+    ensures { λ _. ⌜ now (u .exit) ≡ uAfterUnweaving width height (lent (now (u .entry)) «u_stride») (lent (now (v .entry)) «v_stride») (lent (now (uv .entry)) «uv_stride») ⌝ }
+    ensures { λ _. ⌜ now (v .exit) ≡ vAfterUnweaving width height (lent (now (u .entry)) «u_stride») (lent (now (v .entry)) «v_stride») (lent (now (uv .entry)) «uv_stride») ⌝ }
+{
+    yuv_error::answer_alone(weave::unweave8(width, height, uv, uv_stride, u, u_stride, v, v_stride))
+}
+
+// U and V of u16, woven into one plane.
+#[no_mangle]
+pub extern "C" fn dethrowg_weave16(
+    width: u32,
+    height: u32,
+    u: &[u16],
+    u_stride: u32,
+    v: &[u16],
+    v_stride: u32,
+    uv: &mut [u16],
+    uv_stride: u32,
+) -> Report
+    ensures { λ r. ⌜ r ≡ asReport (weaveAnswer width height (lent (now (u .entry)) «u_stride») (lent (now (v .entry)) «v_stride») (lent (now (uv .entry)) «uv_stride»)) unclipped ⌝ }
+    ensures { λ _. ⌜ now (uv .exit) ≡ afterWeaving width height (lent (now (u .entry)) «u_stride») (lent (now (v .entry)) «v_stride») (lent (now (uv .entry)) «uv_stride») ⌝ }
+{
+    yuv_error::answer_alone(weave::weave16(width, height, u, u_stride, v, v_stride, uv, uv_stride))
+}
+
+// A woven plane of u16, taken apart into U and V.
+#[no_mangle]
+pub extern "C" fn dethrowg_unweave16(
+    width: u32,
+    height: u32,
+    uv: &[u16],
+    uv_stride: u32,
+    u: &mut [u16],
+    u_stride: u32,
+    v: &mut [u16],
+    v_stride: u32,
+) -> Report
+    ensures { λ r. ⌜ r ≡ asReport (weaveAnswer width height (lent (now (u .entry)) «u_stride») (lent (now (v .entry)) «v_stride») (lent (now (uv .entry)) «uv_stride»)) unclipped ⌝ }
+    ensures { λ _. ⌜ now (u .exit) ≡ uAfterUnweaving width height (lent (now (u .entry)) «u_stride») (lent (now (v .entry)) «v_stride») (lent (now (uv .entry)) «uv_stride») ⌝ }
+    ensures { λ _. ⌜ now (v .exit) ≡ vAfterUnweaving width height (lent (now (u .entry)) «u_stride») (lent (now (v .entry)) «v_stride») (lent (now (uv .entry)) «uv_stride») ⌝ }
+{
+    yuv_error::answer_alone(weave::unweave16(
+        width,
+        height,
+        uv,
+        uv_stride,
+        u,
+        u_stride,
+        v,
+        v_stride,
+    ))
 }

@@ -18,7 +18,7 @@ use Rattle.yuv_support.proofs.Rows.{Outside, painted-length, row-fits, cell-at,
 use Rattle.weave_planes.specs.Woven.{Plane, lent, elementAt, alternating, wovenAt, woven, ofU, ofV, unwovenAt, unwoven}
 use Rattle.weave_planes.specs.Fits.{RowsFit}
 use Rattle.weave_planes.proofs.Rows.{u-first, v-second}
-use Rattle.weave.specs.Weaving.{weaveAnswer, after, uvAfter, uAfter, vAfter}
+use Rattle.weave.specs.Weaving.{weaveAnswer, after, afterWeaving, uAfterUnweaving, vAfterUnweaving}
 use Rattle.weave.specs.Restored.{PaddingKept, UnweavingRestores, WeavingRestores, PaddingUntouched}
 use Rattle.weave.proofs.Asked.{planes-fit}
 
@@ -33,25 +33,25 @@ painted-at f n height p fit row x hr hx =
 -- after an accepted call
 module _ (width height : ℕ) (u v uv : Plane) (accepted : weaveAnswer width height u v uv .number ≡ 0) where
   pub woven-at : (row x : ℕ) → row < height → x < 2 * width
-      → elementAt (lent (uvAfter width height u v uv) (uv .stride)) row x ≡ wovenAt u v row x
-  unfolding uvAfter woven
+      → elementAt (lent (afterWeaving width height u v uv) (uv .stride)) row x ≡ wovenAt u v row x
+  unfolding afterWeaving woven
   woven-at row x hr hx = rw accepted (painted-at (wovenAt u v) (2 * width) height uv (planes-fit width height u v uv accepted .of-uv) row x hr hx)
 
   pub u-at : (row x : ℕ) → row < height → x < width
-      → elementAt (lent (uAfter width height u v uv) (u .stride)) row x ≡ elementAt uv row (2 * x)
-  unfolding uAfter unwoven
+      → elementAt (lent (uAfterUnweaving width height u v uv) (u .stride)) row x ≡ elementAt uv row (2 * x)
+  unfolding uAfterUnweaving unwoven
   u-at row x hr hx = rw accepted (painted-at (unwovenAt ofU uv) width height u (planes-fit width height u v uv accepted .of-u) row x hr hx ∙ rw add-zero)
 
   pub v-at : (row x : ℕ) → row < height → x < width
-      → elementAt (lent (vAfter width height u v uv) (v .stride)) row x ≡ elementAt uv row (2 * x + 1)
-  unfolding vAfter unwoven
+      → elementAt (lent (vAfterUnweaving width height u v uv) (v .stride)) row x ≡ elementAt uv row (2 * x + 1)
+  unfolding vAfterUnweaving unwoven
   v-at row x hr hx = rw accepted (painted-at (unwovenAt ofV uv) width height v (planes-fit width height u v uv accepted .of-v) row x hr hx)
 
 -- ---- restored
 
 pub unweaving-restores : UnweavingRestores
 unweaving-restores width height u v uv u′ v′ first second =
-    let w = lent (uvAfter width height u v uv) (uv .stride) in (
+    let w = lent (afterWeaving width height u v uv) (uv .stride) in (
       λ row x hr hx. u-at width height u′ v′ w second row x hr hx
           ∙ woven-at width height u v uv first row (2 * x) hr (omega arith) ∙ u-first (elementAt u row) (elementAt v row) x,
       λ row x hr hx. v-at width height u′ v′ w second row x hr hx
@@ -72,8 +72,8 @@ alternating-of g a b x ea eb = by-test (eqb (x % 2) 0) refl
 
 pub weaving-restores : WeavingRestores
 weaving-restores width height uv u v uv′ first second row x hr hx =
-    let a = lent (uAfter width height u v uv) (u .stride) in
-    let b = lent (vAfter width height u v uv) (v .stride) in
+    let a = lent (uAfterUnweaving width height u v uv) (u .stride) in
+    let b = lent (vAfterUnweaving width height u v uv) (v .stride) in
     woven-at width height a b uv′ second row x hr hx
     ∙ alternating-of (elementAt uv row) (elementAt a row) (elementAt b row) x
     (u-at width height u v uv first row (x / 2) hr (omega arith)) (v-at width height u v uv first row (x / 2) hr (omega arith))
@@ -103,7 +103,7 @@ padding-kept f n height p answer = by-test (eqb (answer .number) 0) refl
     by-test false e = rw e (record { same-length = refl; kept = λ j none. refl })
 
 pub padding-untouched : PaddingUntouched
-unfolding uvAfter uAfter vAfter woven unwoven
+unfolding afterWeaving uAfterUnweaving vAfterUnweaving woven unwoven
 padding-untouched width height u v uv =
     let answer = weaveAnswer width height u v uv in (
       padding-kept (wovenAt u v) (2 * width) height uv answer,

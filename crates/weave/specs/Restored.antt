@@ -6,7 +6,7 @@ use mathlib.Core.List.{List}
 use Prim.Native.Nat.{ℕ, _+_, _*_, _<_}
 use lib.ListN.{length, getD}
 use Rattle.weave_planes.specs.Woven.{Plane, lent, elementAt}
-use Rattle.weave.specs.Weaving.{weaveAnswer, uvAfter, uAfter, vAfter}
+use Rattle.weave.specs.Weaving.{weaveAnswer, afterWeaving, uAfterUnweaving, vAfterUnweaving}
 
 -- two planes have the same samples: the first n elements of each of `height` rows, each plane by its own stride
 abbrev pub SameSamples : ℕ → ℕ → Plane → Plane → Type 0
@@ -20,26 +20,26 @@ pub record PaddingKept (n height : ℕ) (p : Plane) (now : List ℕ) : Type 0 wh
 -- u and v are woven into uv, and what is there then is taken apart into u′ and v′, which may be any planes
 abbrev pub UnweavingRestores : Type 0
 UnweavingRestores =
-    (width height : ℕ) (u v uv u′ v′ : Plane) → let w = lent (uvAfter width height u v uv) (uv .stride) in
+    (width height : ℕ) (u v uv u′ v′ : Plane) → let w = lent (afterWeaving width height u v uv) (uv .stride) in
     weaveAnswer width height u v uv .number ≡ 0
     → weaveAnswer width height u′ v′ w .number ≡ 0
-    → SameSamples width height (lent (uAfter width height u′ v′ w) (u′ .stride)) u
-    × SameSamples width height (lent (vAfter width height u′ v′ w) (v′ .stride)) v
+    → SameSamples width height (lent (uAfterUnweaving width height u′ v′ w) (u′ .stride)) u
+    × SameSamples width height (lent (vAfterUnweaving width height u′ v′ w) (v′ .stride)) v
 
 -- uv is taken apart into u and v, and what is there then is woven into uv′, which may be any plane
 abbrev pub WeavingRestores : Type 0
 WeavingRestores =
     (width height : ℕ) (uv u v uv′ : Plane) →
-    let a = lent (uAfter width height u v uv) (u .stride) in
-    let b = lent (vAfter width height u v uv) (v .stride) in
+    let a = lent (uAfterUnweaving width height u v uv) (u .stride) in
+    let b = lent (vAfterUnweaving width height u v uv) (v .stride) in
     weaveAnswer width height u v uv .number ≡ 0
     → weaveAnswer width height a b uv′ .number ≡ 0
-    → SameSamples (2 * width) height (lent (uvAfter width height a b uv′) (uv′ .stride)) uv
+    → SameSamples (2 * width) height (lent (afterWeaving width height a b uv′) (uv′ .stride)) uv
 
 -- of any call, accepted or refused
 abbrev pub PaddingUntouched : Type 0
 PaddingUntouched =
     (width height : ℕ) (u v uv : Plane)
-    → PaddingKept (2 * width) height uv (uvAfter width height u v uv)
-    × PaddingKept width height u (uAfter width height u v uv)
-    × PaddingKept width height v (vAfter width height u v uv)
+    → PaddingKept (2 * width) height uv (afterWeaving width height u v uv)
+    × PaddingKept width height u (uAfterUnweaving width height u v uv)
+    × PaddingKept width height v (vAfterUnweaving width height u v uv)

@@ -32,12 +32,12 @@ abbrev pub after : Verdict → List ℕ → List ℕ → List ℕ
 after answer written old = cond (eqb (answer .number) 0) written old
 
 -- weaving
-unfoldable pub uvAfter : ℕ → ℕ → Plane → Plane → Plane → List ℕ
-uvAfter width height u v uv = after (weaveAnswer width height u v uv) (woven width height u v uv) (uv .elements)
+unfoldable pub afterWeaving : ℕ → ℕ → Plane → Plane → Plane → List ℕ
+afterWeaving width height u v uv = after (weaveAnswer width height u v uv) (woven width height u v uv) (uv .elements)
 
 -- its undoing
-unfoldable pub uAfter : ℕ → ℕ → Plane → Plane → Plane → List ℕ
-uAfter width height u v uv = after (weaveAnswer width height u v uv) (unwoven ofU width height uv u) (u .elements)
+unfoldable pub uAfterUnweaving : ℕ → ℕ → Plane → Plane → Plane → List ℕ
+uAfterUnweaving width height u v uv = after (weaveAnswer width height u v uv) (unwoven ofU width height uv u) (u .elements)
 
-unfoldable pub vAfter : ℕ → ℕ → Plane → Plane → Plane → List ℕ
-vAfter width height u v uv = after (weaveAnswer width height u v uv) (unwoven ofV width height uv v) (v .elements)
+unfoldable pub vAfterUnweaving : ℕ → ℕ → Plane → Plane → Plane → List ℕ
+vAfterUnweaving width height u v uv = after (weaveAnswer width height u v uv) (unwoven ofV width height uv v) (v .elements)

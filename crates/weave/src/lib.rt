@@ -6,7 +6,7 @@ ghost use Prim.Native.Nat.{_≤_};
 ghost use Rattle.yuv_support.specs.Questions.{verdict, extent};
 ghost use Rattle.yuv_error.specs.Told.{told};
 ghost use Rattle.weave_planes.specs.Woven.{lent};
-ghost use Rattle.weave.specs.Weaving.{planeUsable, weaveQuestions, weaveAnswer, uvAfter, uAfter, vAfter};
+ghost use Rattle.weave.specs.Weaving.{planeUsable, weaveQuestions, weaveAnswer, afterWeaving, uAfterUnweaving, vAfterUnweaving};
 use yuv_error::YuvError;
 
 // Question 22 of a plane of `length` elements, n being its row: 5 and 6 asked of it, and answered by one number.
@@ -61,7 +61,7 @@ pub fn weave8(
     uv_stride: u32,
 ) -> YuvError
     ensures { λ r. ⌜ told r ≡ weaveAnswer width height (lent (now (u .entry)) «u_stride») (lent (now (v .entry)) «v_stride») (lent (now (uv .entry)) «uv_stride») ⌝ }
-    ensures { λ _. ⌜ now (uv .exit) ≡ uvAfter width height (lent (now (u .entry)) «u_stride») (lent (now (v .entry)) «v_stride») (lent (now (uv .entry)) «uv_stride») ⌝ }
+    ensures { λ _. ⌜ now (uv .exit) ≡ afterWeaving width height (lent (now (u .entry)) «u_stride») (lent (now (v .entry)) «v_stride») (lent (now (uv .entry)) «uv_stride») ⌝ }
 {
     let answer = check_planes(
         width,
@@ -92,7 +92,7 @@ pub fn weave16(
     uv_stride: u32,
 ) -> YuvError
     ensures { λ r. ⌜ told r ≡ weaveAnswer width height (lent (now (u .entry)) «u_stride») (lent (now (v .entry)) «v_stride») (lent (now (uv .entry)) «uv_stride») ⌝ }
-    ensures { λ _. ⌜ now (uv .exit) ≡ uvAfter width height (lent (now (u .entry)) «u_stride») (lent (now (v .entry)) «v_stride») (lent (now (uv .entry)) «uv_stride») ⌝ }
+    ensures { λ _. ⌜ now (uv .exit) ≡ afterWeaving width height (lent (now (u .entry)) «u_stride») (lent (now (v .entry)) «v_stride») (lent (now (uv .entry)) «uv_stride») ⌝ }
 {
     let answer = check_planes(
         width,
@@ -123,8 +123,8 @@ pub fn unweave8(
     v_stride: u32,
 ) -> YuvError
     ensures { λ r. ⌜ told r ≡ weaveAnswer width height (lent (now (u .entry)) «u_stride») (lent (now (v .entry)) «v_stride») (lent (now (uv .entry)) «uv_stride») ⌝ }
-    ensures { λ _. ⌜ now (u .exit) ≡ uAfter width height (lent (now (u .entry)) «u_stride») (lent (now (v .entry)) «v_stride») (lent (now (uv .entry)) «uv_stride») ⌝ }
-    ensures { λ _. ⌜ now (v .exit) ≡ vAfter width height (lent (now (u .entry)) «u_stride») (lent (now (v .entry)) «v_stride») (lent (now (uv .entry)) «uv_stride») ⌝ }
+    ensures { λ _. ⌜ now (u .exit) ≡ uAfterUnweaving width height (lent (now (u .entry)) «u_stride») (lent (now (v .entry)) «v_stride») (lent (now (uv .entry)) «uv_stride») ⌝ }
+    ensures { λ _. ⌜ now (v .exit) ≡ vAfterUnweaving width height (lent (now (u .entry)) «u_stride») (lent (now (v .entry)) «v_stride») (lent (now (uv .entry)) «uv_stride») ⌝ }
 {
     let answer = check_planes(
         width,
@@ -155,8 +155,8 @@ pub fn unweave16(
     v_stride: u32,
 ) -> YuvError
     ensures { λ r. ⌜ told r ≡ weaveAnswer width height (lent (now (u .entry)) «u_stride») (lent (now (v .entry)) «v_stride») (lent (now (uv .entry)) «uv_stride») ⌝ }
-    ensures { λ _. ⌜ now (u .exit) ≡ uAfter width height (lent (now (u .entry)) «u_stride») (lent (now (v .entry)) «v_stride») (lent (now (uv .entry)) «uv_stride») ⌝ }
-    ensures { λ _. ⌜ now (v .exit) ≡ vAfter width height (lent (now (u .entry)) «u_stride») (lent (now (v .entry)) «v_stride») (lent (now (uv .entry)) «uv_stride») ⌝ }
+    ensures { λ _. ⌜ now (u .exit) ≡ uAfterUnweaving width height (lent (now (u .entry)) «u_stride») (lent (now (v .entry)) «v_stride») (lent (now (uv .entry)) «uv_stride») ⌝ }
+    ensures { λ _. ⌜ now (v .exit) ≡ vAfterUnweaving width height (lent (now (u .entry)) «u_stride») (lent (now (v .entry)) «v_stride») (lent (now (uv .entry)) «uv_stride») ⌝ }
 {
     let answer = check_planes(
         width,

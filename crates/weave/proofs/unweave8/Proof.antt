@@ -2,7 +2,7 @@
 -- Assumes nothing.
 use borrow.Author.Tests.{not-true, not-false}
 use mathlib.Core.Path.{_∙_}
-use Rattle.weave.specs.Weaving.{uAfter, vAfter}
+use Rattle.weave.specs.Weaving.{uAfterUnweaving, vAfterUnweaving}
 use Rattle.weave.proofs.Asked.{planes-fit, accepted-0, after-accepted, after-refused}
 use borrow.Author.Needs.{needs}
 use Rattle.weave.proofs.unweave8.Statement.{statement}
@@ -15,7 +15,7 @@ is-accepted-requires : tie.Need-is-accepted-requires
 is-accepted-requires c κs = search needs
 
 returns : tie.Need-returns
-unfolding uAfter vAfter
+unfolding uAfterUnweaving vAfterUnweaving
 returns c =
     let kept = after-refused _ _ _ (c .before .before .check-planes .ensures) (c .before .is-accepted .ensures) (not-true _ (c .if1 .taken)) in
     (c .before .before .check-planes .ensures, (kept _ _, kept _ _))
@@ -31,7 +31,7 @@ same-length-2 : tie.Need-same-length-2
 same-length-2 c = search needs
 
 returns-2 : tie.Need-returns-2
-unfolding uAfter vAfter
+unfolding uAfterUnweaving vAfterUnweaving
 returns-2 c =
     let written = after-accepted _ _ _ (c .before .before .before .before .before .before .before .before .before .check-planes .ensures) (c .before .before .before .before .before .before .before .before .is-accepted .ensures) (not-false _ (c .before .before .before .before .before .before .before .if1 .left)) in
     (c .before .before .before .before .before .before .before .before .before .check-planes .ensures, (c .before .before .before .before .unweave-plane8 .ensures .0 ∙ written _ _, c .before .before .before .before .unweave-plane8 .ensures .1 ∙ written _ _))

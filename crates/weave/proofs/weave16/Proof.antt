@@ -2,7 +2,7 @@
 -- Assumes nothing.
 use borrow.Author.Tests.{not-true, not-false}
 use mathlib.Core.Path.{_∙_}
-use Rattle.weave.specs.Weaving.{uvAfter}
+use Rattle.weave.specs.Weaving.{afterWeaving}
 use Rattle.weave.proofs.Asked.{planes-fit, accepted-0, after-accepted, after-refused}
 use borrow.Author.Needs.{needs}
 use Rattle.weave.proofs.weave16.Statement.{statement}
@@ -15,7 +15,7 @@ is-accepted-requires : tie.Need-is-accepted-requires
 is-accepted-requires c κs = search needs
 
 returns : tie.Need-returns
-unfolding uvAfter
+unfolding afterWeaving
 returns c =
     let kept = after-refused _ _ _ (c .before .before .check-planes .ensures) (c .before .is-accepted .ensures) (not-true _ (c .if1 .taken)) in
     (c .before .before .check-planes .ensures, kept _ _)
@@ -28,7 +28,7 @@ same-length : tie.Need-same-length
 same-length c = search needs
 
 returns-2 : tie.Need-returns-2
-unfolding uvAfter
+unfolding afterWeaving
 returns-2 c =
     let written = after-accepted _ _ _ (c .before .before .before .before .before .before .check-planes .ensures) (c .before .before .before .before .before .is-accepted .ensures) (not-false _ (c .before .before .before .before .if1 .left)) in
     (c .before .before .before .before .before .before .check-planes .ensures, c .before .before .weave-plane16 .ensures ∙ written _ _)
