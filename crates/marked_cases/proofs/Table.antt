@@ -21,6 +21,8 @@ use Rattle.y4m_frames.specs.Stream.{isKnown, endsAt, isPlace}
 use Rattle.y4m_frames.specs.Questions.{frameQuestions, frameAnswer, isRead}
 use Rattle.y4m.specs.Reading.{headerQuestions, headerTold, frameTold, yAfter, uAfter, vAfter}
 use Rattle.y4m.specs.Writing.{writeHeaderAnswer, headerWritten, afterHeader, frameText, writeFrameAnswer, frameWritten, afterFrame}
+use Rattle.weave_planes.specs.Woven.{alternating, woven, unwoven}
+use Rattle.weave.specs.Weaving.{weaveQuestions, afterWeaving, uAfterUnweaving, vAfterUnweaving}
 use Rattle.marked_cases.specs.Marked.{Marked}
 use Rattle.marked_cases.proofs.Sheet.{marked-sheet}
 
@@ -37,6 +39,7 @@ unfolding maxOf biasY biasC rangeY rangeC unpacked weightR weightB weightG weigh
     sizeOf bytesOf sampleAt rowBytes planeBytes planeRead isKnown endsAt isPlace frameQuestions frameAnswer isRead
     headerQuestions headerTold frameTold yAfter uAfter vAfter
     writeHeaderAnswer headerWritten afterHeader frameText writeFrameAnswer frameWritten afterFrame
+    alternating woven unwoven weaveQuestions afterWeaving uAfterUnweaving vAfterUnweaving
 marked = record {
   sheet = marked-sheet;
   sheet-pixels = (refl, refl);
@@ -77,4 +80,8 @@ marked = record {
   no-rows-at-the-height = (refl, refl);
   first-row = (refl, refl, refl, refl, refl);
   last-odd-row = refl;
+  woven-plane = refl;
+  unwoven-planes = (refl, refl);
+  planes-usable = (refl, refl, refl, refl, refl, refl, refl, refl);
+  not-woven = refl;
 }

@@ -25,7 +25,7 @@ use Rattle.yuv_support.specs.Coefficients.{coefficientsOf}
 use Rattle.yuv_support.specs.Blend.{Chroma, Cb, Cr, one, two, left, right, tail, sixteenths, rounded, chromaWidth, chromaHeight}
 use Rattle.yuv_support.specs.Component.{R, G, B, componentOf}
 use Rattle.yuv_support.specs.Picture.{bandRows}
-use Rattle.yuv_support.specs.Questions.{Verdict, accepted, refused, verdict, Request, extent, conversionQuestions, bandQuestions}
+use Rattle.yuv_support.specs.Questions.{Verdict, accepted, refused, verdict, Request, Extent, extent, conversionQuestions, bandQuestions}
 use Rattle.yuv_support.specs.Conversion.{clippedAfter, destinationAfterBand}
 use Rattle.yuv_error.specs.Told.{asTold}
 use Rattle.sheet_text.specs.Sheet.{sheetOf}
@@ -38,6 +38,8 @@ use Rattle.y4m.specs.declared.Y4mFrame.{Y4mFrame}
 use Rattle.y4m.specs.declared.Written.{Written}
 use Rattle.y4m.specs.Reading.{headerTold, frameTold, yAfter, uAfter, vAfter}
 use Rattle.y4m.specs.Writing.{headerWritten, afterHeader, frameWritten, afterFrame}
+use Rattle.weave_planes.specs.Woven.{lent as planeOf}
+use Rattle.weave.specs.Weaving.{weaveQuestions, afterWeaving, uAfterUnweaving, vAfterUnweaving}
 use Rattle.marked_cases.specs.Sheet.{markedInput, markedOutput}
 use Rattle.marked_cases.specs.Streams.{word, w0, w2, w16384, w16385, h1, h2, c420, c420jpeg, c422, c422p10, passedOver, ended, header2x2, header1x1, frameWord, samplesShort, samples, frame2x2, frame1x1}
 
@@ -185,6 +187,10 @@ written number expected received bytes = record { number = number; expected = ex
 
 -- ---- the table
 
+-- the verdict on planes of U, of V and the woven one
+abbrev pub weaveOn : ℕ → ℕ → Extent → Extent → Extent → Verdict
+weaveOn width height u v uv = verdict (weaveQuestions width height u v uv)
+
 pub record Marked : Type 0 where
   -- "the sheet above": the whole output of the whole input, byte by byte
   pub sheet : sheetOf markedInput ≡ markedOutput
@@ -328,3 +334,24 @@ pub record Marked : Type 0 where
   pub last-odd-row :
       destinationAfterBand depths8 (codes 8 1 0 (tenths 0)) (image 1 3) (10 ∷ 20 ∷ 30 ∷ []) (128 ∷ 128 ∷ []) (128 ∷ 128 ∷ []) 3 (replicate 9 7) 2 2
       ≡ 7 ∷ 7 ∷ 7 ∷ 7 ∷ 7 ∷ 7 ∷ 30 ∷ 30 ∷ 30 ∷ []
+  -- slip 8: "each row's U and V samples alternating, U first"; all else is kept
+  pub woven-plane :
+      afterWeaving 2 2 (planeOf (10 ∷ 20 ∷ 9 ∷ 30 ∷ 40 ∷ []) 3) (planeOf (50 ∷ 60 ∷ 70 ∷ 80 ∷ []) 2) (planeOf (replicate 10 7) 5)
+      ≡ 10 ∷ 50 ∷ 20 ∷ 60 ∷ 7 ∷ 30 ∷ 70 ∷ 40 ∷ 80 ∷ 7 ∷ []
+  -- its undoing
+  pub unwoven-planes :
+      let uv = planeOf (10 ∷ 50 ∷ 20 ∷ 60 ∷ 9 ∷ 30 ∷ 70 ∷ 40 ∷ 80 ∷ []) 5 in
+      (uAfterUnweaving 2 2 (planeOf (replicate 6 7) 3) (planeOf (replicate 5 7) 2) uv ≡ 10 ∷ 20 ∷ 7 ∷ 30 ∷ 40 ∷ 7 ∷ [])
+      × (vAfterUnweaving 2 2 (planeOf (replicate 6 7) 3) (planeOf (replicate 5 7) 2) uv ≡ 50 ∷ 60 ∷ 70 ∷ 80 ∷ 7 ∷ [])
+  -- "It refuses 22 for a plane short by the form of 5 or a stride below the row, after questions 3 and 4"
+  pub planes-usable :
+      (weaveOn 2 2 (extent 4 2) (extent 4 2) (extent 8 4) ≡ accepted)
+      × (weaveOn 2 2 (extent 3 2) (extent 4 2) (extent 8 4) ≡ refused 22)
+      × (weaveOn 2 2 (extent 4 2) (extent 9 1) (extent 8 4) ≡ refused 22)
+      × (weaveOn 2 2 (extent 4 2) (extent 4 2) (extent 7 4) ≡ refused 22)
+      × (weaveOn 2 2 (extent 4 2) (extent 4 2) (extent 9 3) ≡ refused 22)
+      × (weaveOn 16384 1 (extent 16384 16384) (extent 16384 16384) (extent 32768 32768) ≡ accepted)
+      × (weaveOn 16385 1 (extent 0 0) (extent 0 0) (extent 0 0) ≡ refused 4)
+      × (weaveOn 2 0 (extent 0 0) (extent 0 0) (extent 0 0) ≡ refused 3)
+  -- a refused call changes nothing
+  pub not-woven : afterWeaving 2 2 (planeOf (10 ∷ 20 ∷ 30 ∷ []) 2) (planeOf (50 ∷ 60 ∷ 70 ∷ 80 ∷ []) 2) (planeOf (replicate 8 7) 4) ≡ replicate 8 7

@@ -1,5 +1,5 @@
 // Replays stored answers of the Rust through the public entries, each as a whole conversion and in bands, and prints how many were compared
-// and how many differ.
+// and how many differ. The bands are converted from chroma that was woven and taken apart again.
 // The list is the file `stdin` beside src/: a line of column names, then a line of 36 numbers for each call. tests/oracle made it by
 // running the Rust: cargo run --offline --release --bin vectors.
 // Columns: 0 to 6 the codes; 7, 8 the bits of kr and kb; 9, 10 the sides; 11 to 14 the strides of Y, U, V and the destination; 15 to 18
@@ -342,21 +342,125 @@ fn bands16(row: &[u64; 36], y: &[u16], u: &[u16], v: &[u16], rgb: &mut [u16]) ->
     is_odd_answer(row, odd) && is_band_answer(row, all, sum16(rgb))
 }
 
+// Weaves U and V of a line together and takes them apart again into their planes, whose samples are others by then. Whether this is accepted,
+// as it must be where the line's conversion is.
+fn rewoven8(row: &[u64; 36], u: &mut [u8], v: &mut [u8]) -> bool {
+    let image = image_of(row);
+    let columns = images::chroma_width(image.width);
+    let rows = images::chroma_height(
+        yuv_support::sampling_of(codes_of(row).sampling),
+        image.height,
+    );
+    let mut uv = [0u8; 2048];
+    let stride = narrow(2 * columns as u64);
+    let woven = weave::weave8(
+        columns,
+        rows,
+        u,
+        image.u_stride,
+        v,
+        image.v_stride,
+        &mut uv,
+        stride,
+    );
+    if yuv_error::is_accepted(woven) {
+        fill8(u, row[27], 255, 0);
+        fill8(v, row[27], 255, 0);
+        let apart = weave::unweave8(
+            columns,
+            rows,
+            &uv,
+            stride,
+            u,
+            image.u_stride,
+            v,
+            image.v_stride,
+        );
+        return yuv_error::is_accepted(apart);
+    }
+    row[22] != 0
+}
+
+// Whether the bands of a line have the line's answer, converted from chroma that was woven and taken apart.
+fn rewoven_bands8(
+    row: &[u64; 36],
+    y: &mut [u8],
+    u: &mut [u8],
+    v: &mut [u8],
+    rgb: &mut [u8],
+) -> bool {
+    filled8(row, y, u, v, rgb);
+    let rewoven = rewoven8(row, u, v);
+    let bands = bands8(row, y, u, v, rgb);
+    rewoven && bands
+}
+
 // Whether a line's answer is that of the whole conversion and of its bands. The buffers have the lengths that the line says.
 fn replay8(row: &[u64; 36], y: &mut [u8], u: &mut [u8], v: &mut [u8], rgb: &mut [u8]) -> bool {
     filled8(row, y, u, v, rgb);
     let whole = whole8(row, y, u, v, rgb);
-    filled8(row, y, u, v, rgb);
-    let bands = bands8(row, y, u, v, rgb);
+    let bands = rewoven_bands8(row, y, u, v, rgb);
     whole && bands
+}
+
+// Weaves U and V of a line together and takes them apart again into their planes, whose samples are others by then. Whether this is accepted,
+// as it must be where the line's conversion is.
+fn rewoven16(row: &[u64; 36], u: &mut [u16], v: &mut [u16]) -> bool {
+    let image = image_of(row);
+    let columns = images::chroma_width(image.width);
+    let rows = images::chroma_height(
+        yuv_support::sampling_of(codes_of(row).sampling),
+        image.height,
+    );
+    let mut uv = [0u16; 2048];
+    let stride = narrow(2 * columns as u64);
+    let woven = weave::weave16(
+        columns,
+        rows,
+        u,
+        image.u_stride,
+        v,
+        image.v_stride,
+        &mut uv,
+        stride,
+    );
+    if yuv_error::is_accepted(woven) {
+        fill16(u, row[27], 65535, 0);
+        fill16(v, row[27], 65535, 0);
+        let apart = weave::unweave16(
+            columns,
+            rows,
+            &uv,
+            stride,
+            u,
+            image.u_stride,
+            v,
+            image.v_stride,
+        );
+        return yuv_error::is_accepted(apart);
+    }
+    row[22] != 0
+}
+
+// Whether the bands of a line have the line's answer, converted from chroma that was woven and taken apart.
+fn rewoven_bands16(
+    row: &[u64; 36],
+    y: &mut [u16],
+    u: &mut [u16],
+    v: &mut [u16],
+    rgb: &mut [u16],
+) -> bool {
+    filled16(row, y, u, v, rgb);
+    let rewoven = rewoven16(row, u, v);
+    let bands = bands16(row, y, u, v, rgb);
+    rewoven && bands
 }
 
 // Whether a line's answer is that of the whole conversion and of its bands. The buffers have the lengths that the line says.
 fn replay16(row: &[u64; 36], y: &mut [u16], u: &mut [u16], v: &mut [u16], rgb: &mut [u16]) -> bool {
     filled16(row, y, u, v, rgb);
     let whole = whole16(row, y, u, v, rgb);
-    filled16(row, y, u, v, rgb);
-    let bands = bands16(row, y, u, v, rgb);
+    let bands = rewoven_bands16(row, y, u, v, rgb);
     whole && bands
 }
 
