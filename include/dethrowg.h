@@ -48,6 +48,10 @@
  * header line, then frames, each a line and the samples of Y, U and V without padding, uint16_t low
  * byte first. C may be 420jpeg, 422, 420p10, 422p10, 420p12 or 422p12, and is 420jpeg where it is
  * absent. Samples of 10 and 12 bits stand in the low bits (DETHROWG_LOW_BITS).
+ *
+ * Woven chroma. dethrowg_weave* and dethrowg_unweave* go between a U and a V plane and one plane that
+ * has both, as NV12, NV16 and P010 do: in each row U and V samples alternating, U first. Conversions
+ * take U and V apart from each other.
  */
 #ifndef DETHROWG_H
 #define DETHROWG_H
@@ -152,8 +156,10 @@ enum dethrowg_number {
     DETHROWG_STREAM_UNKNOWN = 17,      /* streams: is C one of the six, of the element type of the
                                           planes, and are both sides 1 to 16384? */
     DETHROWG_FRAME_CUT = 18,           /* streams: does the stream hold the whole frame? */
-    DETHROWG_FIRST_ROW_UNUSABLE = 19   /* bands: is the first row even and below the height, or the
+    DETHROWG_FIRST_ROW_UNUSABLE = 19,  /* bands: is the first row even and below the height, or the
                                           height itself? */
+    DETHROWG_PLANE_UNUSABLE = 22       /* weaving: is every plane long enough for its own rows, and its
+                                          stride at least its row? */
 };
 
 /* expected and received are the two values in parentheses above, else 0. Needed is
@@ -316,6 +322,38 @@ dethrowg_written dethrowg_y4m_write_frame16(
     uint32_t sampling, uint32_t depth, dethrowg_image image,
     const uint16_t *y, size_t y_len, const uint16_t *u, size_t u_len, const uint16_t *v, size_t v_len,
     uint8_t *out, size_t out_len);
+
+/* Weaves U and V: row r of uv has the samples of row r of u and of v alternating, u first, 2 * width
+ * elements. width and height are the sides of the chroma planes, not of the picture. Asks 3, 4, then
+ * 22 of u, v and uv. A refused call changes nothing; an accepted one keeps all of uv that lies between
+ * the rows or after the last. below and above are 0. Samples are handed on as they stand, so in either
+ * packing. uv may not overlap u or v. */
+dethrowg_answer dethrowg_weave8(
+    uint32_t width, uint32_t height,
+    const uint8_t *u, size_t u_len, uint32_t u_stride,
+    const uint8_t *v, size_t v_len, uint32_t v_stride,
+    uint8_t *uv, size_t uv_len, uint32_t uv_stride);
+
+dethrowg_answer dethrowg_weave16(
+    uint32_t width, uint32_t height,
+    const uint16_t *u, size_t u_len, uint32_t u_stride,
+    const uint16_t *v, size_t v_len, uint32_t v_stride,
+    uint16_t *uv, size_t uv_len, uint32_t uv_stride);
+
+/* Takes a woven plane apart into u and v: the undoing of the above, with the same questions. What was
+ * woven comes back as the same samples, and what was taken apart is woven to the same samples. No two
+ * of the planes may overlap. */
+dethrowg_answer dethrowg_unweave8(
+    uint32_t width, uint32_t height,
+    const uint8_t *uv, size_t uv_len, uint32_t uv_stride,
+    uint8_t *u, size_t u_len, uint32_t u_stride,
+    uint8_t *v, size_t v_len, uint32_t v_stride);
+
+dethrowg_answer dethrowg_unweave16(
+    uint32_t width, uint32_t height,
+    const uint16_t *uv, size_t uv_len, uint32_t uv_stride,
+    uint16_t *u, size_t u_len, uint32_t u_stride,
+    uint16_t *v, size_t v_len, uint32_t v_stride);
 
 #ifdef __cplusplus
 }

@@ -81,6 +81,22 @@ pub fn planes<T: Element>(random: &mut Random, kind: Samples, q: &Request) -> Pl
 /// Elements before and after a destination, which a conversion is not given.
 pub const GUARD: usize = 16;
 
+/// Buffers of random elements, with such elements around them.
+pub fn guarded<T: Element>(random: &mut Random, planes: [Extent; 3]) -> Planes<T> {
+    planes.map(|plane| elements(random, plane.len + 2 * GUARD, |bits| bits))
+}
+
+/// The parts of buffers that are lent: all but the elements around them.
+pub fn parts<T>(buffers: &mut Planes<T>) -> [&mut [T]; 3] {
+    buffers.each_mut().map(|buffer| part(buffer, 0))
+}
+
+/// That part of one buffer, from a place on.
+pub fn part<T>(buffer: &mut [T], from: usize) -> &mut [T] {
+    let end = buffer.len() - GUARD;
+    &mut buffer[GUARD + from..end]
+}
+
 /// How far a stride and a length lie above their limits.
 pub type Slack = (i64, i64);
 

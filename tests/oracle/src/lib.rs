@@ -1,7 +1,8 @@
 //! Compares the proved library with the scalar Rust of yuvutils-rs, with document 01's questions and,
 //! where the Rust has nothing to compare, with a second reading of the documents: matched mode, what
-//! was clipped, bands, and Y4M streams. The settings `packing` and `mode`, the counts `below` and
-//! `above`, bands and Y4M streams are those of document 02, slips 1, 4, 3, 5 and 2.
+//! was clipped, bands, Y4M streams, and woven chroma. The settings `packing` and `mode`, the counts
+//! `below` and `above`, bands, Y4M streams and woven chroma are those of document 02, slips 1, 4, 3, 5,
+//! 2 and 8.
 
 pub mod cases;
 pub mod library;
@@ -13,6 +14,7 @@ pub mod streams;
 pub mod tally;
 #[cfg(feature = "level_a")]
 pub mod timing;
+pub mod weave;
 pub mod y4m;
 
 /// What a conversion answers: 0, 0, 0 and what was clipped, or the first question that got a "no",
@@ -162,5 +164,5 @@ impl Request {
     }
 }
 
-/// The samples of the Y, U and V planes.
+/// The samples of the Y, U and V planes, or of U, V and the woven plane.
 pub type Planes<T> = [Vec<T>; 3];

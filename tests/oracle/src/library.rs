@@ -7,6 +7,8 @@ use crate::Part;
 use crate::{Answer, Planes, Request};
 use crate::{Codes, SettingsUsed};
 
+#[cfg(feature = "weave")]
+pub mod weave;
 #[cfg(feature = "y4m")]
 pub mod y4m;
 

@@ -1,7 +1,7 @@
 //! Document 01's questions 1 to 14, with the packing and the mode of document 02's slips 1 and 4, and
 //! question 19 with the rows of a band of slip 5, written from their text. The Rust has no number for
 //! 1, 2, 4, 13, 14 and 19 and no bands; for the others this is a second opinion. `src/y4m.rs` asks 1 to
-//! 4 and 7 to 12 of Y4M frames.
+//! 4 and 7 to 12 of Y4M frames, `src/weave.rs` 3 and 4 of woven chroma.
 use crate::{Answer, Band, Codes, Extent, Part, Request, SettingsUsed};
 
 pub(crate) type Asked = Result<(), Answer>;
@@ -15,7 +15,7 @@ pub(crate) fn ask(number: u64, yes: bool, expected: u64, received: u64) -> Asked
     }
 }
 
-fn answer(asked: Asked) -> Answer {
+pub(crate) fn answer(asked: Asked) -> Answer {
     asked.err().unwrap_or_default()
 }
 
@@ -86,7 +86,7 @@ pub(crate) fn sides(width: u32, height: u32) -> Asked {
 }
 
 /// The elements that rows of `row` elements take: the form of question 5.
-fn needed(stride: u32, row: u32, rows: u32) -> u64 {
+pub(crate) fn needed(stride: u32, row: u32, rows: u32) -> u64 {
     u64::from(stride) * u64::from(rows - 1) + u64::from(row)
 }
 

@@ -7,7 +7,7 @@ use std::process::ExitCode;
 #[derive(Default)]
 pub struct Tally {
     pub calls: u64,
-    by_number: [u64; 20],
+    by_number: [u64; 23],
     alone: BTreeMap<&'static str, u64>,
     different: u64,
     smallest: Vec<(usize, String)>,
@@ -75,6 +75,16 @@ pub fn samples_of<T: Element>(planes: &Planes<T>, lent: &Planes<T>) -> String {
         }
     }
     text
+}
+
+/// The elements of each plane that differ, by the planes' names.
+pub fn differing_planes<T: Element>(
+    names: [&str; 3], before: &Planes<T>, ours: &Planes<T>, wanted: &Planes<T>,
+) -> String {
+    let differ = (0..3).filter(|i| ours[*i] != wanted[*i]);
+    differ
+        .map(|i| format!("  {}:{}", names[i], differing(&before[i], &ours[i], &wanted[i])))
+        .collect()
 }
 
 /// The destination's elements that differ; places before and after it are outside the buffer.

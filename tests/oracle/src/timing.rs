@@ -7,6 +7,8 @@ use crate::{random::Random, reading, reference, Answer, Codes, Planes, Request};
 use std::hint::black_box;
 use std::time::Instant;
 
+#[cfg(feature = "weave")]
+pub mod weave;
 #[cfg(feature = "y4m")]
 pub mod y4m;
 

@@ -224,23 +224,32 @@ fn frame<'a>(
     Ok(Some(Found { form, samples, next: len - others.len() as u64 }))
 }
 
-/// Puts a frame's samples into planes, each from one byte, or from two, low byte first.
+/// Puts a frame's samples into planes.
 pub fn put_samples<T: Element>(
     form: &Form, bytes: &[u8], planes: [&mut [T]; 3], strides: [u32; 3],
 ) {
-    let sample = |bytes: &[u8]| bytes.iter().rev().fold(0, |high, low| high << 8 | u16::from(*low));
-    let samples = bytes.chunks(T::BITS as usize / 8).map(sample);
+    let samples = bytes.chunks(T::BITS as usize / 8).map(sample_of);
     for ((plane, at), sample) in form.places(strides).zip(samples) {
         planes[plane][at] = T::low(sample);
     }
+}
+
+/// The sample of one byte, or of two, low byte first.
+pub fn sample_of(bytes: &[u8]) -> u16 {
+    bytes.iter().rev().fold(0, |high, low| high << 8 | u16::from(*low))
+}
+
+/// The bytes of a sample.
+pub fn bytes_of<T: Element>(sample: T) -> impl Iterator<Item = u8> {
+    let sample: i64 = sample.into();
+    sample.to_le_bytes().into_iter().take(T::BITS as usize / 8)
 }
 
 /// The bytes of a frame's samples.
 pub fn sample_bytes<T: Element>(form: &Form, planes: [&[T]; 3], strides: [u32; 3]) -> Vec<u8> {
     let mut bytes = Vec::with_capacity(form.bytes() as usize);
     for (plane, at) in form.places(strides) {
-        let sample: i64 = planes[plane][at].into();
-        bytes.extend(&sample.to_le_bytes()[..T::BITS as usize / 8]);
+        bytes.extend(bytes_of(planes[plane][at]));
     }
     bytes
 }

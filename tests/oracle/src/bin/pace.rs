@@ -1,12 +1,16 @@
 //! Times frames against the scalar Rust, in bands against the library's whole conversion, and Y4M frames
-//! against a copy: the quick program. `speed` measures more of the first.
+//! and woven chroma against a copy: the quick program. `speed` measures more of the first.
 #[cfg(feature = "bands")]
 use oracle::timing::measure_bands;
+#[cfg(feature = "weave")]
+use oracle::timing::weave::measure_weave;
 #[cfg(feature = "y4m")]
 use oracle::timing::y4m::{measure_y4m, Way};
 use oracle::timing::{measure, name, Content, Task, Times, FRAME};
 #[cfg(feature = "y4m")]
 use oracle::y4m::Form;
+#[cfg(feature = "weave")]
+use oracle::{model::chroma_sides, weave};
 use oracle::{tally::status, Codes};
 use std::process::ExitCode;
 
@@ -51,6 +55,10 @@ fn main() -> ExitCode {
     {
         same &= y4m();
     }
+    #[cfg(feature = "weave")]
+    for sides in [(1920, 1080), (3840, 2160)] {
+        same &= woven(sides);
+    }
     println!("{}", if same { "all pixels, counts and samples equal" } else { "SOMETHING DIFFERS" });
     status(same)
 }
@@ -91,6 +99,21 @@ fn y4m() -> bool {
         let form = Form { sampling: 0, depth, width: 1920, height: 1080 };
         for (way, word) in [(Way::Read, "read"), (Way::Write, "written")] {
             let measured = measure_y4m(form, way, ROUNDS);
+            all_same &= line(&format!("{depth} bits, 4:2:0, {word}"), measured);
+        }
+    }
+    all_same
+}
+
+/// The chroma of a 4:2:0 frame of these sides woven and unwoven, beside a copy of the bytes that are
+/// written; whether the samples are equal. Each is to take at most 1.5 of the time of the copy.
+#[cfg(feature = "weave")]
+fn woven((width, height): (u32, u32)) -> bool {
+    heading(&format!("{width} by {height}, chroma"), ["ours", "copy"]);
+    let mut all_same = true;
+    for depth in [8, 10] {
+        for (way, word) in [(weave::Way::Weave, "woven"), (weave::Way::Unweave, "unwoven")] {
+            let measured = measure_weave(way, chroma_sides(0, width, height), depth, ROUNDS);
             all_same &= line(&format!("{depth} bits, 4:2:0, {word}"), measured);
         }
     }

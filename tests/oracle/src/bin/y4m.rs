@@ -3,16 +3,16 @@
 //! of every write all four numbers, the planes, and every byte of the output, likewise. What the
 //! library wrote it must read back. Arguments: how many streams of each kind, and a seed.
 use oracle::cases::{
-    around_limits, around_sides, elements, planes, request, strange, tight_or_spare, tiny, Samples,
-    DEPTHS, GUARD, SAMPLINGS, SIDES, TIGHT,
+    around_limits, around_sides, elements, guarded, part, parts, planes, request, strange,
+    tight_or_spare, tiny, Samples, DEPTHS, GUARD, SAMPLINGS, SIDES, TIGHT,
 };
 use oracle::library::y4m as library;
 use oracle::library::y4m::Frames;
 use oracle::random::Random;
 use oracle::streams::{self, Line, Stream, MOST};
-use oracle::tally::{differing, samples_of, status, Tally};
+use oracle::tally::{differing, differing_planes, samples_of, status, Tally};
 use oracle::y4m::{self, Form};
-use oracle::{Extent, Planes, Request, Written, Y4mFrame};
+use oracle::{Planes, Request, Written, Y4mFrame};
 use std::process::ExitCode;
 
 fn main() -> ExitCode {
@@ -111,17 +111,6 @@ impl Counts {
     }
 }
 
-/// The parts of buffers that are lent: all but the elements around them.
-fn parts<T>(buffers: &mut Planes<T>) -> [&mut [T]; 3] {
-    buffers.each_mut().map(|buffer| part(buffer, 0))
-}
-
-/// That part of one buffer, from a place on.
-fn part<T>(buffer: &mut [T], from: usize) -> &mut [T] {
-    let end = buffer.len() - GUARD;
-    &mut buffer[GUARD + from..end]
-}
-
 /// Compares what the header says.
 fn header(run: &mut Run, stream: &Stream) {
     let mut lent = stream.bytes.clone();
@@ -147,8 +136,7 @@ fn text(stream: &Stream, lent: &[u8]) -> String {
 fn read<T: Frames>(
     run: &mut Run, stream: &Stream, place: u64, q: &Request,
 ) -> (Y4mFrame, Planes<T>) {
-    let around = |plane: Extent| elements(&mut run.random, plane.len + 2 * GUARD, |bits| bits);
-    let before: Planes<T> = q.planes().map(around);
+    let before: Planes<T> = guarded(&mut run.random, q.planes());
     let (mut left, mut right, mut lent) = (before.clone(), before.clone(), stream.bytes.clone());
     let ours = T::read(&mut lent[..stream.len], place, parts(&mut left), q.strides());
     let wanted = y4m::read(stream.lent(), place, parts(&mut right), q.strides());
@@ -158,12 +146,8 @@ fn read<T: Frames>(
         run.tally.differ(stream.len + q.y.len + q.u.len + q.v.len, || {
             let planes = format!("Y {:?}, U {:?}, V {:?}, {} bits", q.y, q.u, q.v, T::BITS);
             let answers = format!("  ours   {ours:?}\n  wanted {wanted:?}\n");
-            let mut text = text(stream, &lent) + &format!("  place {place}, {planes}\n{answers}");
-            for i in (0..3).filter(|i| left[*i] != right[*i]) {
-                let name = ["Y", "U", "V"][i];
-                text += &format!("  {name}:{}", differing(&before[i], &left[i], &right[i]));
-            }
-            text
+            let text = text(stream, &lent) + &format!("  place {place}, {planes}\n{answers}");
+            text + &differing_planes(["Y", "U", "V"], &before, &left, &right)
         });
     }
     (ours, left)
