@@ -342,7 +342,8 @@ pub extern "C" fn dethrowg_weave8(
     ensures { λ r. ⌜ r ≡ asReport (weaveAnswer width height (lent (now (u .entry)) «u_stride») (lent (now (v .entry)) «v_stride») (lent (now (uv .entry)) «uv_stride»)) unclipped ⌝ }
     ensures { λ _. ⌜ now (uv .exit) ≡ afterWeaving width height (lent (now (u .entry)) «u_stride») (lent (now (v .entry)) «v_stride») (lent (now (uv .entry)) «uv_stride») ⌝ }
 {
-    yuv_error::answer_alone(weave::weave8(width, height, u, u_stride, v, v_stride, uv, uv_stride))
+    let answer = weave::weave8(width, height, u, u_stride, v, v_stride, uv, uv_stride);
+    yuv_error::answer_alone(answer)
 }
 
 // A woven plane of bytes, taken apart into U and V.
@@ -361,7 +362,8 @@ pub extern "C" fn dethrowg_unweave8(
     ensures { λ _. ⌜ now (u .exit) ≡ uAfterUnweaving width height (lent (now (u .entry)) «u_stride») (lent (now (v .entry)) «v_stride») (lent (now (uv .entry)) «uv_stride») ⌝ }
     ensures { λ _. ⌜ now (v .exit) ≡ vAfterUnweaving width height (lent (now (u .entry)) «u_stride») (lent (now (v .entry)) «v_stride») (lent (now (uv .entry)) «uv_stride») ⌝ }
 {
-    yuv_error::answer_alone(weave::unweave8(width, height, uv, uv_stride, u, u_stride, v, v_stride))
+    let answer = weave::unweave8(width, height, uv, uv_stride, u, u_stride, v, v_stride);
+    yuv_error::answer_alone(answer)
 }
 
 // U and V of u16, woven into one plane.
@@ -379,7 +381,8 @@ pub extern "C" fn dethrowg_weave16(
     ensures { λ r. ⌜ r ≡ asReport (weaveAnswer width height (lent (now (u .entry)) «u_stride») (lent (now (v .entry)) «v_stride») (lent (now (uv .entry)) «uv_stride»)) unclipped ⌝ }
     ensures { λ _. ⌜ now (uv .exit) ≡ afterWeaving width height (lent (now (u .entry)) «u_stride») (lent (now (v .entry)) «v_stride») (lent (now (uv .entry)) «uv_stride») ⌝ }
 {
-    yuv_error::answer_alone(weave::weave16(width, height, u, u_stride, v, v_stride, uv, uv_stride))
+    let answer = weave::weave16(width, height, u, u_stride, v, v_stride, uv, uv_stride);
+    yuv_error::answer_alone(answer)
 }
 
 // A woven plane of u16, taken apart into U and V.
@@ -398,14 +401,6 @@ pub extern "C" fn dethrowg_unweave16(
     ensures { λ _. ⌜ now (u .exit) ≡ uAfterUnweaving width height (lent (now (u .entry)) «u_stride») (lent (now (v .entry)) «v_stride») (lent (now (uv .entry)) «uv_stride») ⌝ }
     ensures { λ _. ⌜ now (v .exit) ≡ vAfterUnweaving width height (lent (now (u .entry)) «u_stride») (lent (now (v .entry)) «v_stride») (lent (now (uv .entry)) «uv_stride») ⌝ }
 {
-    yuv_error::answer_alone(weave::unweave16(
-        width,
-        height,
-        uv,
-        uv_stride,
-        u,
-        u_stride,
-        v,
-        v_stride,
-    ))
+    let answer = weave::unweave16(width, height, uv, uv_stride, u, u_stride, v, v_stride);
+    yuv_error::answer_alone(answer)
 }

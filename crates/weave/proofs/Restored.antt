@@ -1,10 +1,9 @@
 -- The theorems of slip 8. An accepted call leaves f's element at every place of a row (`painted-at`), so a sample that was woven and taken apart
 -- is looked up twice, and found where it was; what stands in no row is kept (`padding-kept`).
 -- Assumes nothing.
-use mathlib.Core.Path.{_≡_, refl, sym, ap, _∙_}
+use mathlib.Core.Path.{_≡_, refl, sym, _∙_}
 use mathlib.Core.Logic.{_⊎_, inl, inr}
 use mathlib.Core.Bool.{Bool, true, false}
-use mathlib.Core.List.{List}
 use Prim.Native.Nat.{ℕ, _+_, _*_, _/_, _%_, _≤_, _<_}
 use native.Mathlib.Nat.{add-zero, div-add-mod}
 use native.Mathlib.Omega.{arith}

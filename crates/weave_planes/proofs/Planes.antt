@@ -1,68 +1,27 @@
--- A plane that a loop writes row by row, at either element width (`Painting`), and what the loops keep that weave planes or take one apart
--- (`PlaneWoven`, `PlaneUnwoven`).
+-- What the loops keep that weave planes, or take one apart, row by row, at either element width (`PlaneWoven`, `PlaneUnwoven`).
 -- Assumes nothing.
-use mathlib.Core.Path.{_≡_, refl, sym, ap, _∙_}
+use mathlib.Core.Path.{_≡_, sym, ap, _∙_}
 use mathlib.Core.List.{List}
 use Prim.Native.Nat.{ℕ, _+_, _-_, _*_, _/_, _≤_, _<_}
 use native.Mathlib.Omega.{arith}
 use borrow.Rule.Slice.PartMut.{putMid}
-use lib.ListN.{length, take, drop}
-use Rattle.yuv_support.specs.Picture.{rowOf, painted}
-use Rattle.yuv_support.specs.Questions.{needed, partOf}
-use Rattle.yuv_support.proofs.Rows.{painted-none, painted-length, part-length, part-at, row-fits, row-length, row-back}
+use lib.ListN.{length}
+use Rattle.yuv_support.specs.Picture.{rowOf}
+use Rattle.yuv_support.specs.Questions.{partOf}
+use Rattle.yuv_support.proofs.Rows.{part-length, part-at, row-fits}
+use Rattle.images.proofs.Painting.{Painting, lentRow, painting-none, lent-length, painting-more, painting-all}
 use Rattle.numerics.specs.Row.{at}
 use Rattle.numerics.proofs.Row.{row-as}
 use Rattle.weave_planes.specs.Woven.{Plane, alternating, wovenAt, woven, ofU, ofV, unwovenAt, unwoven}
 use Rattle.weave_planes.specs.Fits.{RowsFit, PlanesFit}
 
--- ---- the first r rows were written
-
--- `xs` is the plane now, and p the plane before
-pub record Painting (f : ℕ → ℕ → ℕ) (n height : ℕ) (p : Plane) (xs : List ℕ) (r : ℕ) : Type 0 where
-  pub most : r ≤ height
-  pub wide : n ≤ p .stride
-  pub room : (q : ℕ) → q < height → p .stride * q + n ≤ length (p .elements)
-  pub kept : length xs ≡ length (p .elements)
-  pub done : xs ≡ painted f (p .stride) n 0 r (p .elements)
-
 -- each row lies in its plane
 rooms : {n height : ℕ} {p : Plane} → RowsFit n height p → (q : ℕ) → q < height → p .stride * q + n ≤ length (p .elements)
 rooms {n} {height} {p} fit q t = row-fits (p .stride) n height q (length (p .elements)) (fit .long) t
 
--- row r as it is lent
-abbrev lentRow : ℕ → Plane → List ℕ → ℕ → List ℕ
-lentRow n p xs r = take (p .stride * r + n - p .stride * r) (drop (p .stride * r) xs)
-
-module _ {f : ℕ → ℕ → ℕ} {n height : ℕ} {p : Plane} where
-  painting-none : RowsFit n height p → Painting f n height p (p .elements) 0
-  painting-none fit =
-      record {
-        most = omega arith;
-        wide = fit .wide;
-        room = rooms fit;
-        kept = refl;
-        done = painted-none f (p .stride) n 0 (p .elements);
-      }
-
-  module _ {xs : List ℕ} {r : ℕ} (d : Painting f n height p xs r) where
-    -- row r is lent, and comes back as f's
-    lent-length : r < height → length (lentRow n p xs r) ≡ n
-    lent-length t = row-length (p .stride) n r xs (rw (d .kept) (d .room r t))
-
-    painting-more : {row : List ℕ} → r < height → row ≡ rowOf f r (lentRow n p xs r)
-        → Painting f n height p (putMid (p .stride * r) (p .stride * r + n - p .stride * r) xs row) (r + 1)
-    painting-more {row} t is =
-        let b = row-back f (p .stride) n 0 r r (p .elements) xs row (d .wide) (d .room r t) (omega arith) (d .done) is in
-        record {
-          most = omega arith;
-          wide = d .wide;
-          room = d .room;
-          kept = ap length b ∙ painted-length f (p .stride) n 0 (r + 1) (p .elements);
-          done = b;
-        }
-
-    painting-all : height ≤ r → xs ≡ painted f (p .stride) n 0 height (p .elements)
-    painting-all l = let e : height ≡ r = omega (arith, d .most) in rw e (d .done)
+-- rows that are written to a plane, of which `xs` is what stands there now
+abbrev pub Written : (ℕ → ℕ → ℕ) → ℕ → ℕ → Plane → List ℕ → ℕ → Type 0
+Written f n height p xs r = Painting f (p .stride) n height (p .elements) xs r
 
 -- ---- weaving
 
@@ -83,16 +42,16 @@ row-woven u v width r {u-row} {v-row} xs eu ev long =
 pub record PlaneWoven (width height : ℕ) (u v uv : Plane) (xs : List ℕ) (r : ℕ) : Type 0 where
   pub u-room : (q : ℕ) → q < height → u .stride * q + width ≤ length (u .elements)
   pub v-room : (q : ℕ) → q < height → v .stride * q + width ≤ length (v .elements)
-  pub painting : Painting (wovenAt u v) (2 * width) height uv xs r
+  pub painting : Written (wovenAt u v) (2 * width) height uv xs r
 
 module _ {width height : ℕ} {u v uv : Plane} where
   pub weave-begin : PlanesFit width height u v uv → PlaneWoven width height u v uv (uv .elements) 0
-  weave-begin fit = record { u-room = rooms (fit .of-u); v-room = rooms (fit .of-v); painting = painting-none (fit .of-uv) }
+  weave-begin fit = record { u-room = rooms (fit .of-u); v-room = rooms (fit .of-v); painting = painting-none (fit .of-uv .wide) (fit .of-uv .long) }
 
   module _ {xs : List ℕ} {r : ℕ} (w : PlaneWoven width height u v uv xs r) where
     pub weave-next : {u-row v-row row : List ℕ} → r < height → u-row ≡ partOf (u .stride) r width (u .elements)
         → v-row ≡ partOf (v .stride) r width (v .elements)
-        → row ≡ rowOf (λ q. alternating (at u-row) (at v-row)) 0 (lentRow (2 * width) uv xs r)
+        → row ≡ rowOf (λ q. alternating (at u-row) (at v-row)) 0 (lentRow (uv .stride) (2 * width) xs r)
         → PlaneWoven width height u v uv (putMid (uv .stride * r) (uv .stride * r + 2 * width - uv .stride * r) xs row) (r + 1)
     weave-next t eu ev is =
         record {
@@ -108,7 +67,7 @@ module _ {width height : ℕ} {u v uv : Plane} where
     -- the rows that are lent have the lengths that a row asks for
     pub weave-sizes : {u-row v-row : List ℕ} → r < height → u-row ≡ partOf (u .stride) r width (u .elements)
         → v-row ≡ partOf (v .stride) r width (v .elements)
-        → (length (lentRow (2 * width) uv xs r) ≡ 2 * length u-row) × (length v-row ≡ length u-row)
+        → (length (lentRow (uv .stride) (2 * width) xs r) ≡ 2 * length u-row) × (length v-row ≡ length u-row)
     weave-sizes t eu ev =
         let lu = ap length eu ∙ part-length (u .stride) r width (u .elements) (w .u-room r t) in
         let lv = ap length ev ∙ part-length (v .stride) r width (v .elements) (w .v-room r t) in
@@ -127,17 +86,17 @@ row-unwoven uv begin width r {row} xs b e long =
 pub record PlaneUnwoven (width height : ℕ) (uv u v : Plane) (z : ℕ) (us vs : List ℕ) (r : ℕ) : Type 0 where
   pub zero : z ≡ 0
   pub uv-room : (q : ℕ) → q < height → uv .stride * q + 2 * width ≤ length (uv .elements)
-  pub of-u : Painting (unwovenAt ofU uv) width height u us r
-  pub of-v : Painting (unwovenAt ofV uv) width height v vs r
+  pub of-u : Written (unwovenAt ofU uv) width height u us r
+  pub of-v : Written (unwovenAt ofV uv) width height v vs r
 
 module _ {width height : ℕ} {uv u v : Plane} {z : ℕ} where
   pub unweave-begin : PlanesFit width height u v uv → z ≡ 0 → PlaneUnwoven width height uv u v z (u .elements) (v .elements) 0
-  unweave-begin fit e = record { zero = e; uv-room = rooms (fit .of-uv); of-u = painting-none (fit .of-u); of-v = painting-none (fit .of-v) }
+  unweave-begin fit e = record { zero = e; uv-room = rooms (fit .of-uv); of-u = painting-none (fit .of-u .wide) (fit .of-u .long); of-v = painting-none (fit .of-v .wide) (fit .of-v .long) }
 
   module _ {us vs : List ℕ} {r : ℕ} (w : PlaneUnwoven width height uv u v z us vs r) where
     pub unweave-next : {row u-row v-row : List ℕ} → r < height → row ≡ partOf (uv .stride) r (2 * width) (uv .elements)
-        → u-row ≡ rowOf (λ q x. at row (2 * x + ofU)) 0 (lentRow width u us r)
-        → v-row ≡ rowOf (λ q x. at row (2 * x + ofV)) 0 (lentRow width v vs r)
+        → u-row ≡ rowOf (λ q x. at row (2 * x + ofU)) 0 (lentRow (u .stride) width us r)
+        → v-row ≡ rowOf (λ q x. at row (2 * x + ofV)) 0 (lentRow (v .stride) width vs r)
         → PlaneUnwoven width height uv u v z
         (putMid (u .stride * r) (u .stride * r + width - u .stride * r) us u-row)
         (putMid (v .stride * r) (v .stride * r + width - v .stride * r) vs v-row) (r + 1)
@@ -154,7 +113,7 @@ module _ {width height : ℕ} {uv u v : Plane} {z : ℕ} where
     unweave-end l = (painting-all (w .of-u) l, painting-all (w .of-v) l)
 
     pub unweave-sizes : {row : List ℕ} → r < height → row ≡ partOf (uv .stride) r (2 * width) (uv .elements)
-        → (length row ≡ 2 * length (lentRow width u us r)) × (length (lentRow width v vs r) ≡ length (lentRow width u us r)) × (z ≡ 0)
+        → (length row ≡ 2 * length (lentRow (u .stride) width us r)) × (length (lentRow (v .stride) width vs r) ≡ length (lentRow (u .stride) width us r)) × (z ≡ 0)
     unweave-sizes t e =
         let lu = lent-length (w .of-u) t in
         let lv = lent-length (w .of-v) t in

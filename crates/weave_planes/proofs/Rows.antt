@@ -1,11 +1,11 @@
 -- A row that a loop weaves or takes apart, pair by pair, at either element width: what is done so far (`Begun` of numerics), and one pair more.
 -- Assumes nothing.
-use mathlib.Core.Path.{_≡_, refl, _∙_}
+use mathlib.Core.Path.{_≡_, refl}
 use mathlib.Core.List.{List}
 use Prim.Native.Nat.{ℕ, _+_, _*_, _/_, _%_, _≤_, _<_}
 use native.Mathlib.Nat.{add-zero}
 use native.Mathlib.Omega.{arith}
-use lib.ListN.{length, set, length-set}
+use lib.ListN.{length, set}
 use Rattle.yuv_support.specs.Picture.{rowOf}
 use Rattle.numerics.specs.Row.{at, Begun}
 use Rattle.numerics.proofs.Row.{begun-none, begun-length, begun-more, begun-whole}

@@ -9,10 +9,11 @@ use native.Mathlib.Omega.{arith}
 use borrow.Rule.Slice.PartMut.{putMid, mid-len}
 use lib.ListN.{length, getD, take, drop, length-append}
 use lib.Seq.{getD-take, getD-drop, drop-drop, sets-eq, length-sets}
-use Rattle.yuv_support.specs.Picture.{rowOf, painted}
+use Rattle.yuv_support.specs.Picture.{rowOf}
 use Rattle.yuv_support.specs.Questions.{needed, partOf}
 use Rattle.yuv_support.proofs.Overlay.{overlay-length, overlay-at, is-overlay}
-use Rattle.yuv_support.proofs.Rows.{painted-none, painted-length, part-length, row-fits, row-length, row-back}
+use Rattle.yuv_support.proofs.Rows.{part-length, row-fits}
+use Rattle.images.proofs.Painting.{Painting, lentRow, painting-none, lent-length, painting-more, painting-all}
 use Rattle.sheet_writing.specs.Text.{joined, Wrote}
 use Rattle.sheet_writing.proofs.Write.{Joining, joining-none, joining-one, joining-all}
 use Rattle.y4m_planes.specs.declared.Element.{Element}
@@ -27,8 +28,8 @@ columns-fit columns r rows h =
     omega (arith, mul-suc columns r)
 
 -- the length of a part that is lent
-lent-length : (from k : ℕ) (xs : List ℕ) → from + k ≤ length xs → length (take (from + k - from) (drop from xs)) ≡ k
-lent-length from k xs h = mid-len from (from + k) xs h ∙ add-sub-cancel-left from k
+part-lent : (from k : ℕ) (xs : List ℕ) → from + k ≤ length xs → length (take (from + k - from) (drop from xs)) ≡ k
+part-lent from k xs h = mid-len from (from + k) xs h ∙ add-sub-cancel-left from k
 
 -- ---- reading
 
@@ -58,53 +59,31 @@ row-in-plane e s at columns r from k xs ef ek l =
 
 -- the first r rows were read
 pub record PlaneRead (e : Element) (s : List ℕ) (at columns rows stride : ℕ) (plane₀ plane : List ℕ) (r : ℕ) : Type 0 where
-  pub most : r ≤ rows
-  pub wide : columns ≤ stride
-  pub room : (q : ℕ) → q < rows → stride * q + columns ≤ length plane₀
   pub inside : (q : ℕ) → q < rows → columns * q + columns ≤ columns * rows
-  pub same : length plane ≡ length plane₀
-  pub done : plane ≡ painted (sampleIn e s at columns) stride columns 0 r plane₀
+  pub painting : Painting (sampleIn e s at columns) stride columns rows plane₀ plane r
 
 module _ {e : Element} {s : List ℕ} {at columns rows stride : ℕ} {plane₀ : List ℕ} where
   pub read-begin : columns ≤ stride → needed stride columns rows ≤ length plane₀ → PlaneRead e s at columns rows stride plane₀ plane₀ 0
-  read-begin w long =
-      record {
-        most = omega arith;
-        wide = w;
-        room = λ q t. row-fits stride columns rows q (length plane₀) long t;
-        inside = λ q t. columns-fit columns q rows t;
-        same = refl;
-        done = painted-none (sampleIn e s at columns) stride columns 0 plane₀;
-      }
+  read-begin w long = record { inside = λ q t. columns-fit columns q rows t; painting = painting-none w long }
 
   module _ {plane : List ℕ} {r : ℕ} (d : PlaneRead e s at columns rows stride plane₀ plane r) where
     -- the next row is as long as a row, and its bytes are those of a row
-    next-length : r < rows → length (take (stride * r + columns - stride * r) (drop (stride * r) plane)) ≡ columns
-    next-length t = row-length stride columns r plane (rw (d .same) (d .room r t))
-
     pub read-sizes : (from k : ℕ) → r < rows → from + k ≤ length s → k ≡ sizeOf e * columns
-        → length (take (from + k - from) (drop from s)) ≡ sizeOf e * length (take (stride * r + columns - stride * r) (drop (stride * r) plane))
-    read-sizes from k t fits ek = rw (next-length t) (lent-length from k s fits ∙ ek)
+        → length (take (from + k - from) (drop from s)) ≡ sizeOf e * length (lentRow stride columns plane r)
+    read-sizes from k t fits ek = rw (lent-length (d .painting) t) (part-lent from k s fits ∙ ek)
 
     pub read-next : (from k : ℕ) {row : List ℕ} → r < rows → from ≡ at + sizeOf e * (columns * r) → k ≡ sizeOf e * columns
-        → row ≡ rowOf (λ q x. sampleAt e (take k (drop from s)) (sizeOf e * x)) 0 (take (stride * r + columns - stride * r) (drop (stride * r) plane))
+        → row ≡ rowOf (λ q x. sampleAt e (take k (drop from s)) (sizeOf e * x)) 0 (lentRow stride columns plane r)
         → PlaneRead e s at columns rows stride plane₀ (putMid (stride * r) (stride * r + columns - stride * r) plane row) (r + 1)
-    read-next from k {row} t ef ek is =
-        let f = sampleIn e s at columns in
-        let b = row-back f stride columns 0 r r plane₀ plane row (d .wide) (d .room r t) (omega arith) (d .done)
-        (is ∙ row-in-plane e s at columns r from k _ ef ek (next-length t)) in
+    read-next from k t ef ek is =
         record {
-          most = omega arith;
-          wide = d .wide;
-          room = d .room;
           inside = d .inside;
-          same = ap length b ∙ painted-length f stride columns 0 (r + 1) plane₀;
-          done = b;
+          painting = painting-more (d .painting) t (is ∙ row-in-plane e s at columns r from k _ ef ek (lent-length (d .painting) t));
         }
 
     pub read-end : rows ≤ r → plane ≡ planeRead e s at columns rows stride plane₀
     unfolding planeRead
-    read-end l = let n : rows ≡ r = omega (arith, d .most) in rw n (d .done)
+    read-end l = painting-all (d .painting) l
 
 -- ---- how many bytes a plane has
 
@@ -174,7 +153,7 @@ module _ {e : Element} {stride columns rows : ℕ} {plane : List ℕ} {at : ℕ}
 
     pub write-sizes : (k : ℕ) {row : List ℕ} → r < rows → k ≡ sizeOf e * columns → row ≡ partOf stride r columns plane
         → length (take (to + k - to) (drop to out)) ≡ sizeOf e * length row
-    write-sizes k t ek is = rw (is, part-length stride r columns plane (w .inside r t)) (lent-length to k out (omega (arith, next-room t)) ∙ ek)
+    write-sizes k t ek is = rw (is, part-length stride r columns plane (w .inside r t)) (part-lent to k out (omega (arith, next-room t)) ∙ ek)
 
     pub write-next : (k : ℕ) {row : List ℕ} → r < rows → k ≡ sizeOf e * columns → row ≡ rowText e stride columns plane r
         → PlaneWritten e stride columns rows plane at out₀ (putMid to (to + k - to) out row) (to + k) (r + 1)

@@ -78,10 +78,10 @@ loop-again c =
     unweave-next (c .before .before .before .before .before .before .before .before .before .loop .inv) (c .before .before .before .before .before .before .before .before .loop-test .taken) (c .before .before .before .before .before .before .before .row8 .ensures) (c .before .before .before .before .unweave-row8 .ensures .0) (c .before .before .before .before .unweave-row8 .ensures .1)
 
 same-length : tie.Need-same-length Inv-loop μ-loop
-same-length c = c .before .loop .inv .of-u .kept
+same-length c = c .before .loop .inv .of-u .same
 
 same-length-2 : tie.Need-same-length-2 Inv-loop μ-loop
-same-length-2 c = c .before .loop .inv .of-v .kept
+same-length-2 c = c .before .loop .inv .of-v .same
 
 returns : tie.Need-returns Inv-loop μ-loop
 returns c = unweave-end (c .before .loop .inv) (c .loop-test .left)

@@ -1,6 +1,6 @@
 -- `weave_planes::weave_plane8` meets its contract: one row more at each turn of the loop (`PlaneWoven`).
 -- Assumes nothing.
-use Prim.Native.Nat.{_-_, _*_}
+use Prim.Native.Nat.{_-_}
 use native.Mathlib.Omega.{arith}
 use Rattle.weave_planes.specs.Woven.{lent}
 use Rattle.weave_planes.proofs.Planes.{PlaneWoven, weave-begin, weave-sizes, weave-next, weave-end}
@@ -57,7 +57,7 @@ loop-again c =
     weave-next (c .before .before .before .before .before .before .before .loop .inv) (c .before .before .before .before .before .before .loop-test .taken) (c .before .before .before .before .before .row8 .ensures) (c .before .before .before .before .row82 .ensures) (c .before .before .weave-row8 .ensures)
 
 same-length : tie.Need-same-length Inv-loop μ-loop
-same-length c = c .before .loop .inv .painting .kept
+same-length c = c .before .loop .inv .painting .same
 
 returns : tie.Need-returns Inv-loop μ-loop
 returns c = weave-end (c .before .loop .inv) (c .loop-test .left)

@@ -21,7 +21,7 @@ cast-start : tie.Need-cast-start Inv-loop μ-loop
 cast-start c = omega arith
 
 mul-start : tie.Need-mul-start Inv-loop μ-loop
-mul-start c = omega (arith, c .before .loop .inv .room (c .before .loop .r) (c .loop-test .taken))
+mul-start c = omega (arith, c .before .loop .inv .painting .room (c .before .loop .r) (c .loop-test .taken))
 
 cast-from : tie.Need-cast-from Inv-loop μ-loop
 cast-from c = omega arith
@@ -36,10 +36,10 @@ add-from : tie.Need-add-from Inv-loop μ-loop
 add-from c = omega (arith, c .before .loop .inv .inside (c .before .loop .r) (c .loop-test .taken))
 
 add-read-row16 : tie.Need-add-read-row16 Inv-loop μ-loop
-add-read-row16 c = omega (arith, c .before .loop .inv .room (c .before .loop .r) (c .loop-test .taken))
+add-read-row16 c = omega (arith, c .before .loop .inv .painting .room (c .before .loop .r) (c .loop-test .taken))
 
 mul-read-row16 : tie.Need-mul-read-row16 Inv-loop μ-loop
-mul-read-row16 c = omega (arith, c .before .loop .inv .room (c .before .loop .r) (c .loop-test .taken))
+mul-read-row16 c = omega (arith, c .before .loop .inv .painting .room (c .before .loop .r) (c .loop-test .taken))
 
 sub-read-row16 : tie.Need-sub-read-row16 Inv-loop μ-loop
 sub-read-row16 c = omega arith
@@ -48,7 +48,7 @@ part-read-row16-start : tie.Need-part-read-row16-start Inv-loop μ-loop
 part-read-row16-start c = omega arith
 
 part-read-row16-end : tie.Need-part-read-row16-end Inv-loop μ-loop
-part-read-row16-end c = omega (arith, c .before .loop .inv .room (c .before .loop .r) (c .loop-test .taken))
+part-read-row16-end c = omega (arith, c .before .loop .inv .painting .room (c .before .loop .r) (c .loop-test .taken))
 
 mul-read-row16-2 : tie.Need-mul-read-row16-2 Inv-loop μ-loop
 mul-read-row16-2 c = omega arith
@@ -89,7 +89,7 @@ loop-again c =
     read-next (loop .inv) from (to - from) (c .before .before .before .before .before .loop-test .taken) (omega arith) (omega arith) (c .before .before .read-row16 .ensures)
 
 same-length : tie.Need-same-length Inv-loop μ-loop
-same-length c = c .before .loop .inv .same
+same-length c = c .before .loop .inv .painting .same
 
 returns : tie.Need-returns Inv-loop μ-loop
 returns c = read-end (c .before .loop .inv) (c .loop-test .left)

@@ -21,7 +21,7 @@ cast-start : tie.Need-cast-start Inv-loop μ-loop
 cast-start c = omega arith
 
 mul-start : tie.Need-mul-start Inv-loop μ-loop
-mul-start c = omega (arith, c .before .loop .inv .room (c .before .loop .r) (c .loop-test .taken))
+mul-start c = omega (arith, c .before .loop .inv .painting .room (c .before .loop .r) (c .loop-test .taken))
 
 cast-from : tie.Need-cast-from Inv-loop μ-loop
 cast-from c = omega arith
@@ -33,7 +33,7 @@ add-from : tie.Need-add-from Inv-loop μ-loop
 add-from c = omega (arith, c .before .loop .inv .inside (c .before .loop .r) (c .loop-test .taken))
 
 add-read-row8 : tie.Need-add-read-row8 Inv-loop μ-loop
-add-read-row8 c = omega (arith, c .before .loop .inv .room (c .before .loop .r) (c .loop-test .taken))
+add-read-row8 c = omega (arith, c .before .loop .inv .painting .room (c .before .loop .r) (c .loop-test .taken))
 
 sub-read-row8 : tie.Need-sub-read-row8 Inv-loop μ-loop
 sub-read-row8 c = omega arith
@@ -42,7 +42,7 @@ part-read-row8-start : tie.Need-part-read-row8-start Inv-loop μ-loop
 part-read-row8-start c = omega arith
 
 part-read-row8-end : tie.Need-part-read-row8-end Inv-loop μ-loop
-part-read-row8-end c = omega (arith, c .before .loop .inv .room (c .before .loop .r) (c .loop-test .taken))
+part-read-row8-end c = omega (arith, c .before .loop .inv .painting .room (c .before .loop .r) (c .loop-test .taken))
 
 add-read-row8-2 : tie.Need-add-read-row8-2 Inv-loop μ-loop
 add-read-row8-2 c = omega (arith, c .before .before .loop .inv .inside (c .before .before .loop .r) (c .before .loop-test .taken))
@@ -80,7 +80,7 @@ loop-again c =
     read-next (loop .inv) from (to - from) (c .before .before .before .before .before .loop-test .taken) (omega arith) (omega arith) (c .before .before .read-row8 .ensures)
 
 same-length : tie.Need-same-length Inv-loop μ-loop
-same-length c = c .before .loop .inv .same
+same-length c = c .before .loop .inv .painting .same
 
 returns : tie.Need-returns Inv-loop μ-loop
 returns c = read-end (c .before .loop .inv) (c .loop-test .left)
