@@ -51,7 +51,7 @@
  *
  * Woven chroma. dethrowg_weave* and dethrowg_unweave* go between a U and a V plane and one plane that
  * has both, as NV12, NV16 and P010 do: in each row U and V samples alternating, U first. Conversions
- * take U and V apart from each other.
+ * take U and V as two planes.
  */
 #ifndef DETHROWG_H
 #define DETHROWG_H

@@ -134,7 +134,7 @@ pub fn weave_plane16(
     }
 }
 
-// 0, from numbers that the compiler does not know enough of to see it.
+// 0, as a number of run time: that the stride is at least the width is known here, and not used by the compiler.
 fn nothing(width: u32, stride: u32) -> u32
     requires { ⌜ (1 ≤ width) × (width ≤ stride) ⌝ }
     ensures { λ r. ⌜ r ≡ 0 ⌝ }
