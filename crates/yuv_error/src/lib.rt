@@ -178,12 +178,19 @@ pub fn report_of(c: Converted) -> Report
     }
 }
 
-// The same of a call that converts nothing, and so has no counts.
+// An answer with no counts: nothing was converted.
+fn uncounted(answer: YuvError) -> Converted
+    ensures { λ r. ⌜ r ≡ record { answer = answer; clipped = unclipped } ⌝ }
+{
+    let clipped = Clipped { below: 0, above: 0 };
+    Converted { answer, clipped }
+}
+
+// The numbers of the answer to a call that converts nothing.
 pub fn answer_alone(answer: YuvError) -> Report
     ensures { λ r. ⌜ r ≡ asReport (told answer) unclipped ⌝ }
 {
-    let clipped = Clipped { below: 0, above: 0 };
-    report_of(Converted { answer, clipped })
+    report_of(uncounted(answer))
 }
 
 // The same of a band's answer, then the rows written and the next first row.
@@ -206,10 +213,8 @@ pub fn band_report_of(b: ConvertedBand) -> BandReport
 pub fn refused_band(answer: YuvError, first: u32) -> ConvertedBand
     ensures { λ r. ⌜ r ≡ record { converted = record { answer = answer; clipped = unclipped }; rows = 0; next = first } ⌝ }
 {
-    let clipped = Clipped { below: 0, above: 0 };
-    let converted = Converted { answer, clipped };
     ConvertedBand {
-        converted,
+        converted: uncounted(answer),
         rows: 0,
         next: first,
     }
