@@ -1,6 +1,6 @@
 /* Dethrowg: from planar Y, Cb, Cr to RGB, for hosts in C and in languages that call C.
  *
- * Link libdethrowg.a (x86-64 Linux, made by `rt staticlib dethrowg`).
+ * Link libdethrowg.a (Linux on x86-64-v2, that is with SSE4.2; made by `rt lib` in crates/dethrowg).
  *
  * Samples. Plane u holds Cb and plane v holds Cr. Depth 8 is uint8_t; depths 10 and 12 are uint16_t
  * in the host's byte order, the sample in the low bits or in the high bits, as the packing says.

@@ -1,8 +1,8 @@
 /* Converts a large 4:2:0 frame of bytes to RGB in bands of rows and draws a progress bar from what
  * each call answers. Then converts it as a whole, compares the two, and makes a refused call. In the
- * repository, after `rt staticlib dethrowg`:
+ * repository, after `(cd crates/dethrowg && rt lib)` and `mkdir -p target`:
  *
- *   cc -std=c99 -Wall -I include examples/c/bands.c target/staticlib/libdethrowg.a -o target/bands_c
+ *   cc -std=c99 -Wall -I include examples/c/bands.c crates/dethrowg/out/libdethrowg.a -o target/bands_c
  *   target/bands_c
  */
 #include <stdio.h>

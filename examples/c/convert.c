@@ -1,8 +1,8 @@
 /* Converts a small 4:2:0 frame of bytes to RGBA, prints the settings used, the picture, how much of
  * it was clipped and one finished row, then a refused call, and a pixel of SMPTE 240 in both modes.
- * In the repository, after `rt staticlib dethrowg`:
+ * In the repository, after `(cd crates/dethrowg && rt lib)` and `mkdir -p target`:
  *
- *   cc -std=c99 -Wall -I include examples/c/convert.c target/staticlib/libdethrowg.a -o target/convert_c
+ *   cc -std=c99 -Wall -I include examples/c/convert.c crates/dethrowg/out/libdethrowg.a -o target/convert_c
  *   target/convert_c
  */
 #include <stdio.h>

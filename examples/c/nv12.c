@@ -1,9 +1,9 @@
 /* Takes the chroma of an NV12 frame (8 bits, 4:2:0, U and V samples alternating in one plane) apart,
  * converts the frame to RGB (limited BT.709), prints the mean blue code and how much was clipped, and
  * weaves the chroma together again. Without a file the frame is one of its own, 6 by 4. In the
- * repository, after `rt staticlib dethrowg`:
+ * repository, after `(cd crates/dethrowg && rt lib)` and `mkdir -p target`:
  *
- *   cc -std=c99 -Wall -I include examples/c/nv12.c target/staticlib/libdethrowg.a -o target/nv12_c
+ *   cc -std=c99 -Wall -I include examples/c/nv12.c crates/dethrowg/out/libdethrowg.a -o target/nv12_c
  *   target/nv12_c [WIDTH HEIGHT FILE]
  */
 #include <stdio.h>

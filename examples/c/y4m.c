@@ -1,9 +1,9 @@
 /* Reads a YUV4MPEG2 (Y4M) stream of 8, 10 or 12 bits, converts each frame to RGB (limited BT.709) and
  * prints the mean blue code of each and how much of it was clipped. Without a file it first writes a
  * stream of its own, three frames of 10 bits, and then reads it, whole and cut. In the repository,
- * after `rt staticlib dethrowg`:
+ * after `(cd crates/dethrowg && rt lib)` and `mkdir -p target`:
  *
- *   cc -std=c99 -Wall -I include examples/c/y4m.c target/staticlib/libdethrowg.a -o target/y4m_c
+ *   cc -std=c99 -Wall -I include examples/c/y4m.c crates/dethrowg/out/libdethrowg.a -o target/y4m_c
  *   target/y4m_c [FILE]
  */
 #include <stdio.h>

@@ -1,6 +1,6 @@
 """Converts a 4:2:0 frame to RGB, from 8 bits, from 10 bits and from 10 bits in the high bits, and
 prints the settings used for each, the pictures, how much of them was clipped, and a refused call. In
-the repository, after `rt staticlib dethrowg`:
+the repository, after `(cd crates/dethrowg && rt lib)`:
 
     python3 examples/python/convert.py
 """
@@ -11,7 +11,7 @@ from ctypes import c_uint8, c_uint16, c_uint32, c_uint64
 from pathlib import Path
 
 ROOT = Path(__file__).resolve().parents[2]
-ARCHIVE = ROOT / "target/staticlib/libdethrowg.a"
+ARCHIVE = ROOT / "crates/dethrowg/out/libdethrowg.a"
 SHARED = ROOT / "target/libdethrowg.so"
 # line n has the words for number n, quoted
 WORDS = [line.strip('",') for line in (ROOT / "examples/words.inc").read_text().splitlines()]
@@ -56,6 +56,7 @@ class SettingsUsed(Structure):
 
 def load():
     """The archive as a shared object, with the types of the functions used here."""
+    SHARED.parent.mkdir(exist_ok=True)
     subprocess.run(
         ["gcc", "-shared", "-o", SHARED, "-Wl,--whole-archive", ARCHIVE, "-Wl,--no-whole-archive"],
         check=True,

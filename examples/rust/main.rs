@@ -1,8 +1,8 @@
 //! Converts a small 4:2:0 frame of bytes to RGBA, prints the settings used, the picture, how much of
 //! it was clipped and one finished row, then a refused call. In the repository, after
-//! `rt staticlib dethrowg`:
+//! `(cd crates/dethrowg && rt lib)` and `mkdir -p target`:
 //!
-//!     rustc --edition 2021 -O -L target/staticlib -l static=dethrowg examples/rust/main.rs -o target/convert_rust
+//!     rustc --edition 2021 -O -L crates/dethrowg/out -l static=dethrowg examples/rust/main.rs -o target/convert_rust
 //!     target/convert_rust
 
 /// The settings of a conversion.

@@ -1,6 +1,8 @@
 // Blocks of pairs of byte samples: chroma of the columns in local arrays, then letters, eight pairs at a time.
 // The loops are shaped for the compiler, which turns each into 16-bit lanes: only u8 and u16 arrays are read and written in them, two letters
 // are stored as one word, two samples are read as one, and counts go into words of their own, which are added up elsewhere.
+#![tactic(auto)]
+
 ghost use Rattle.std.specs.Prelude.{◌≡◌, [], ◌∷◌, ◌++◌, ℕ, ◌+◌, ◌*◌, ◌/◌, ◌%◌, ◌≤◌, ◌<◌, length, get_or};
 ghost use Rattle.std.proofs.lemmas.List.Edits.{sets};
 ghost use Rattle.yuv_support.specs.Blend.{rounded};

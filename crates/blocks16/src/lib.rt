@@ -1,6 +1,8 @@
 // Blocks of u16 samples: chroma of the columns in local arrays, then letters, eight pixels at a time.
 // The loops are shaped for the compiler, which turns each into 16-bit lanes where all samples are below 4,096 and so every sum of chroma
 // fits 16 bits, and into 32-bit lanes for any samples. Counts go into words of their own, which are added up elsewhere.
+#![tactic(auto)]
+
 ghost use Rattle.std.specs.Prelude.{◌≡◌, true, List, [], ◌∷◌, ℕ, ◌+◌, ◌*◌, ◌≤◌, ◌<◌, length};
 ghost use Rattle.std.proofs.lemmas.List.Edits.{sets};
 ghost use Rattle.yuv_support.specs.Picture.{row_of};

@@ -1,5 +1,7 @@
 // The coefficients of the settings that the source stores rows for, precision 13, by formula: M/RY, 2(1−k)·M/RC and 2(1−k)(k/kg)·M/RC, times
 // 8192, each rounded to the nearest whole number. The weights kr, kb and kg = 1 − kr − kb are in ten-thousandths.
+#![tactic(auto)]
+
 ghost use Rattle.std.specs.Prelude.{◌≡◌, ◌-◌, ◌*◌, ◌≤◌, ◌<◌, T};
 ghost use Rattle.yuv_support.specs.Settings.{among, depths, weight_r, weight_b};
 ghost use Rattle.yuv_support.specs.Coefficients.{is_stored, nearest, rule_of};
@@ -8,14 +10,14 @@ ghost use Rattle.built_coefficients.specs.Built.{built_of, NearestRow, SmallWeig
 use yuv_support::{CbCrInverseTransform, YuvMode, YuvRange, YuvStandardMatrix};
 
 // The row of a setting that the source stores one for, or that it stores none.
-#[derive(Drop)]
+#[derive(Clone, Copy)]
 pub enum BuiltTransform {
     Row(CbCrInverseTransform),
     NoRow,
 }
 
 // kr and kb, in ten-thousandths.
-#[derive(Drop)]
+#[derive(Clone, Copy)]
 struct Weights {
     kr: u64,
     kb: u64,

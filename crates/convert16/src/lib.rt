@@ -1,4 +1,6 @@
 // The rows of a picture with u16 samples, one after the other.
+#![tactic(auto)]
+
 ghost use Rattle.std.specs.Prelude.{◌≡◌, ◌+◌, ◌*◌, ◌≤◌, ◌<◌, length};
 ghost use Rattle.yuv_support.specs.declared.YuvBytesPacking.TheVariants.{LeastSignificantBytes};
 ghost use Rattle.yuv_support.specs.Blend.{frame_of};

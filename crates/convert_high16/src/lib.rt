@@ -1,6 +1,8 @@
 // The rows of a picture whose u16 samples stand in the high bits: unpacked into buffers that are made once, by the width, then converted as any
 // other row.
 // A chroma row serves up to four luma rows of 4:2:0, so it is held until a later one takes its half of the buffer.
+#![tactic(auto)]
+
 ghost use Rattle.std.specs.Prelude.{◌≡◌, ℕ, ◌+◌, ◌*◌, ◌/◌, ◌%◌, ◌^◌, ◌≤◌, ◌<◌, length, take, get_or};
 ghost use Rattle.yuv_support.specs.declared.YuvBytesPacking.TheVariants.{MostSignificantBytes};
 ghost use Rattle.yuv_support.specs.Blend.{frame_of, chroma_width};

@@ -1,5 +1,7 @@
 // The exported C functions: the public entries, by C names, for hosts that link the static library (include/dethrowg.h).
 // Each hands on to one entry and promises what that entry promises. Nothing is asked of the caller beyond what the header says of pointers.
+#![tactic(auto)]
+
 ghost use Rattle.std.specs.Prelude.{◌≡◌, length};
 ghost use Rattle.yuv_support.specs.Settings.{depths8, depths16};
 ghost use Rattle.yuv_support.specs.Counts.{unclipped};

@@ -1,5 +1,7 @@
 // The geometry of a planar picture, and the questions of a call in document 01's order: of a conversion, of a band, and of each reader.
 // A question is asked only where those before it held, so a later one may use what they said.
+#![tactic(auto)]
+
 ghost use Rattle.std.specs.Prelude.{◌≡◌, true, ◌∷◌, [], ◌+◌, ◌*◌, ◌≤◌, ◌<◌, T, leb, length};
 ghost use Rattle.yuv_support.specs.Settings.{among, depths};
 ghost use Rattle.yuv_support.specs.Blend.{chroma_width, chroma_height, next_row, near_row};
@@ -13,7 +15,7 @@ use yuv_error::YuvError;
 use yuv_support::{Codes, YuvChromaSubsampling, YuvPlanarImage, YuvSourceChannels};
 
 // How many elements the four buffers have.
-#[derive(Drop)]
+#[derive(Clone, Copy)]
 pub struct Lengths {
     pub y: u64,
     pub u: u64,
@@ -84,7 +86,7 @@ fn other_row(sampling: YuvChromaSubsampling, height: u32, row: u32) -> u32
 }
 
 // The chroma that a luma row blends: its near and its other chroma row, and how many samples each has.
-#[derive(Drop)]
+#[derive(Clone, Copy)]
 pub struct ChromaRows {
     pub near: u32,
     pub other: u32,

@@ -3,6 +3,8 @@
 // p and q are the chroma of the first and of the third letter, so one function serves RGB and BGR with three letters, RGBA and BGRA with four.
 // Pairs of pixels go through local arrays, up to 256 at a time (`blocks16`); what the groups leave, at most two columns, and a row of fewer than
 // 8 pairs before its tail, pixel by pixel.
+#![tactic(auto)]
+
 ghost use Rattle.std.specs.Prelude.{◌≡◌, List, [], ◌⊎◌, ℕ, ◌+◌, ◌-◌, ◌*◌, ◌≤◌, ◌<◌, length};
 ghost use Rattle.std.proofs.lemmas.List.Edits.{sets};
 ghost use Rattle.yuv_support.specs.Blend.{chroma_width};

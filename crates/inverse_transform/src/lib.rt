@@ -1,4 +1,6 @@
 // The five coefficients of a setting: the stored row, or the f32 path where there is none. And question 13.
+#![tactic(auto)]
+
 ghost use Rattle.std.specs.Prelude.{◌≡◌, not, ◌<◌, ◌^◌, T};
 ghost use Rattle.std.specs.Float.{binary32};
 ghost use Rattle.std.specs.Float.Ieee.{of_bits, nan_bits};

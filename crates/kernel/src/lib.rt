@@ -1,4 +1,6 @@
 // The kernel that a conversion works with, from the settings' coefficients.
+#![tactic(auto)]
+
 ghost use Rattle.std.specs.Prelude.{◌≡◌, T};
 ghost use Rattle.yuv_support.specs.Settings.{among, depths};
 ghost use Rattle.yuv_support.specs.Coefficients.{usable};

@@ -3,6 +3,8 @@
 // A kernel's sum is kept above its value by a multiple of 8,192, so that it never falls below 0: 32,511 of them for bytes, and 262,144 for
 // u16 samples, which may be anything up to 65,535. Where these are below 4,096, 32,766 less the largest letter are enough (`lowered`), and
 // there, as for bytes, the code takes them off again and adds up signed numbers.
+#![tactic(auto)]
+
 ghost use Rattle.std.specs.Prelude.{◌≡◌, ℕ, ◌+◌, ◌-◌, ◌*◌, ◌/◌, ◌%◌, ◌≤◌, ◌<◌, min, cond, pos, ◌+ℤ◌, ◌-ℤ◌, length};
 ghost use Rattle.std.specs.Int.Signed.{lt_z};
 ghost use Rattle.yuv_support.specs.Blend.{chroma_red, chroma_width, rounded, tail_of};
@@ -17,7 +19,7 @@ use yuv_support::{Clipped, YuvMode};
 // The coefficients of a pixel's letters, with the biases, the rounding and the offset folded into one constant for each letter.
 // half is 8, half of sixteen sixteenths: a number of run time, so that the compiler keeps a blended u16 sample in 16 bits, and does not know
 // the 0 that is made of it.
-#[derive(Drop)]
+#[derive(Clone, Copy)]
 pub struct Kernel {
     pub offset: u32,
     pub max: u16,
@@ -33,7 +35,7 @@ pub struct Kernel {
 }
 
 // A letter, and 1 if it was below 0, or above the largest, before it was clamped.
-#[derive(Drop)]
+#[derive(Clone, Copy)]
 pub struct Letter {
     pub value: u16,
     pub below: u16,
@@ -41,7 +43,7 @@ pub struct Letter {
 }
 
 // The letters of a pixel but for alpha, and how many of them were below 0 and above the largest.
-#[derive(Drop)]
+#[derive(Clone, Copy)]
 pub struct Letters {
     pub first: u16,
     pub green: u16,
@@ -346,7 +348,7 @@ pub fn cr_tail16(near: u16, far: u16, mode: YuvMode) -> u16
 // ---- groups of pairs
 
 // `eights` times eight pairs, from pair `from` on.
-#[derive(Drop)]
+#[derive(Clone, Copy)]
 pub struct Span {
     pub from: usize,
     pub eights: usize,

@@ -8,13 +8,18 @@
 // to 12: there the number is that of the first "no". Samples in the high bits (packing 1) were divided for the Rust, and stand undivided
 // here. Below and above, and in matched mode (mode 1) the whole answer, are those of the second reading of documents 01 and 02 in
 // tests/oracle: the Rust does not count, and has no such mode.
+#![tactic(auto)]
+
 ghost use Rattle.std.specs.Prelude.{◌≤◌};
 
-use libc::{STDIN_FILENO, STDOUT_FILENO};
+use std::alloc::AllocError;
 use yuv_error::{BandReport, Report};
 use yuv_support::{Codes, YuvPlanarImage};
 
-#[derive(Drop)]
+const STDIN_FILENO: i32 = 0;
+const STDOUT_FILENO: i32 = 1;
+
+#[derive(Clone, Copy)]
 struct Column {
     value: u64,
     next: usize,
@@ -552,8 +557,9 @@ fn replay_all(list: &[u8]) {
 }
 
 // A list longer than the room would be cut, and the count of answers would show it.
-fn main() {
-    let mut list = [0u8; 524288];
+fn main(rt: HostRuntime) -> Result<(), AllocError> {
+    let mut list = vec![in rt.alloc(); 0u8; 524288]?;
     let n = io::read_full(STDIN_FILENO, &mut list);
     replay_all(&list[..n]);
+    Ok(())
 }

@@ -1,6 +1,8 @@
 // Two readers over a picture: a finished row as a part of the destination, and a luma row's near chroma row as a part of the U or the V plane.
 // Nothing is asked of the caller. On a "no" the part is empty; the companion answers on the same inputs, and its number is 0 exactly when a
 // part came back. The `_part` functions give the answer with the part's start and length, for hosts to whom no reference can be returned.
+#![tactic(auto)]
+
 ghost use Rattle.std.specs.Prelude.{◌≡◌, ◌+◌, ◌≤◌, length, take, drop};
 ghost use Rattle.yuv_support.specs.Questions.{extent};
 ghost use Rattle.yuv_error.specs.Told.{told};
@@ -10,7 +12,7 @@ use yuv_error::YuvError;
 
 // The answer as numbers, then where the part starts in its buffer and how many elements it has. On a "no" start and length are 0.
 #[repr(C)]
-#[derive(Drop)]
+#[derive(Clone, Copy)]
 pub struct Part {
     pub number: u64,
     pub expected: u64,

@@ -1,7 +1,10 @@
 // Prints the settings used for the 36 named settings of mode 0, a line each: the codes, the verdict's number, M, the biases and the five
 // coefficients.
-use libc::STDOUT_FILENO;
+#![tactic(auto)]
+
 use yuv_support::Codes;
+
+const STDOUT_FILENO: i32 = 1;
 
 // A number and the space after it.
 fn put(n: u64) {

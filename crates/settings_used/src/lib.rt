@@ -1,5 +1,7 @@
 // The numbers that a conversion with given codes and weights works with: M, the biases and the five coefficients.
 // Nothing is asked of the caller: questions 1, 2 and 13, with the depths of either element width, and a "no" is the answer.
+#![tactic(auto)]
+
 ghost use Rattle.std.specs.Prelude.{◌≡◌, T};
 ghost use Rattle.yuv_support.specs.Settings.{among, depths};
 ghost use Rattle.settings_used.specs.Used.{refusal, answer, settings_used_of};
@@ -9,7 +11,7 @@ use yuv_support::{CbCrInverseTransform, Codes, YuvRange};
 
 // The verdict, then M, bY and bC, then the coefficients times 8192. On a "no" all after the verdict are 0.
 #[repr(C)]
-#[derive(Drop)]
+#[derive(Clone, Copy)]
 pub struct SettingsUsed {
     pub number: u64,
     pub expected: u64,

@@ -1,5 +1,9 @@
 // The sheet of document 01: reads standard input and writes a table of red, green and blue with what was clipped, or a refusal.
-use libc::{STDIN_FILENO, STDOUT_FILENO};
+#![tactic(auto)]
+
+const STDIN_FILENO: i32 = 0;
+const STDOUT_FILENO: i32 = 1;
+
 
 // One byte more than a sheet may have is read, so that a longer input is seen to be longer.
 fn main() {

@@ -1,9 +1,12 @@
 // Further sheets, printed with a name before each: refusals 1, 2 and 15 in several ways, every depth and sampling, the largest sides, damaged
 // lines, bytes that are no text, and inputs above 64 KiB.
+#![tactic(auto)]
+
 ghost use Rattle.std.specs.Prelude.{◌≤◌, ◌<◌, length};
 ghost use Rattle.sheet_cases.specs.Lines.{Lines};
 
-use libc::STDOUT_FILENO;
+const STDOUT_FILENO: i32 = 1;
+
 
 // The bytes, as far as they fit, from a place on; the place after them.
 fn put(buf: &mut [u8], at: usize, bytes: &[u8]) -> usize

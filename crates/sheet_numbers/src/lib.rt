@@ -1,24 +1,26 @@
 // The numbers and lines of a sheet's input: read from a list of bytes, place by place.
+#![tactic(auto)]
+
 ghost use Rattle.std.specs.Prelude.{◌≡◌, ◌≤◌, ◌<◌, length};
 ghost use Rattle.sheet_numbers.specs.Numbers.{byte_at, is_digit, digits_at, number_at, ending};
 ghost use Rattle.sheet_numbers.specs.Read.{begins_with, number_read, LinesTaken};
 
 // The digits of a number, and the number.
-#[derive(Drop)]
+#[derive(Clone, Copy)]
 struct Digits {
     count: usize,
     value: u32,
 }
 
 // A number and the place after the byte that ends it.
-#[derive(Drop)]
+#[derive(Clone, Copy)]
 enum Number {
     Value(u32, usize),
     NoNumber,
 }
 
 // Well-formed lines, with the place after them.
-#[derive(Drop)]
+#[derive(Clone, Copy)]
 pub enum Lines {
     Until(usize),
     Malformed,

@@ -1,5 +1,7 @@
 // The picture of a sheet: its samples converted by the public entry of the element's width, and the table that is written of it and of what
 // was clipped in it.
+#![tactic(auto)]
+
 ghost use Rattle.std.specs.Prelude.{◌≡◌, ℕ, ◌≤◌, ◌<◌, length, take, get_or};
 ghost use Rattle.yuv_support.specs.Settings.{depths, depths8, depths16};
 ghost use Rattle.yuv_support.specs.Counts.{clipped_in};

@@ -1,5 +1,7 @@
 // The table of a small picture: a heading, a line for each pixel, written from the picture's buffer, and a last line of what was clipped.
 // Each function that writes answers the place after what it wrote.
+#![tactic(auto)]
+
 ghost use Rattle.std.specs.Prelude.{◌≡◌, ◌++◌, ◌+◌, ◌≤◌, ◌<◌};
 ghost use Rattle.yuv_support.specs.Component.{red};
 ghost use Rattle.yuv_support.specs.Picture.{place_in};
@@ -10,7 +12,7 @@ ghost use Rattle.sheet_table.specs.Shown.{shown_pixel, shown_row, shown_rows, Sm
 use yuv_support::{Clipped, YuvSourceChannels};
 
 // Where the components of a picture's pixels stand in its buffer.
-#[derive(Drop)]
+#[derive(Clone, Copy)]
 pub struct Places {
     pub width: u32,
     pub height: u32,

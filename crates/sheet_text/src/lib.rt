@@ -1,4 +1,6 @@
 // The sheet of document 01 as a function from the bytes that are read to the bytes that are written.
+#![tactic(auto)]
+
 ghost use Rattle.std.specs.Prelude.{◌≡◌, true, ◌&&◌, ◌≤◌, T, length};
 ghost use Rattle.std.proofs.lemmas.List.Edits.{sets};
 ghost use Rattle.yuv_support.specs.Settings.{among, depths};

@@ -1,4 +1,6 @@
 // The seven values of a sheet: the codes and the sides that they are, how many samples they ask for, and what questions 2 and 15 ask of them.
+#![tactic(auto)]
+
 ghost use Rattle.std.specs.Prelude.{◌≡◌, ◌≤◌};
 ghost use Rattle.yuv_support.specs.Settings.{among, depths};
 ghost use Rattle.yuv_support.specs.Questions.{codes_known};
@@ -7,7 +9,7 @@ ghost use Rattle.sheet_values.specs.Values.{codes_of, image_of, luma_count, chro
 use yuv_support::{Codes, YuvPlanarImage};
 
 // The values of a sheet's second line.
-#[derive(Drop)]
+#[derive(Clone, Copy)]
 pub struct Values {
     pub depth: u32,
     pub sampling: u32,

@@ -1,5 +1,7 @@
 // The text of a sheet's output: bytes and decimal numbers, written into a buffer.
 // Each function writes from place `at` on and answers the place after what it wrote.
+#![tactic(auto)]
+
 ghost use Rattle.std.specs.Prelude.{[], ◌∷◌, ◌+◌, ◌≤◌, ◌<◌, length};
 ghost use Rattle.sheet_writing.specs.Text.{leading_digit, number_text, Wrote};
 

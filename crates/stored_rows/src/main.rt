@@ -1,12 +1,15 @@
 // Finds the numbers of the source's stored rows again, now that the coefficients come by formula. Prints a line for each row: depth, range and
 // matrix, the five numbers as the source has them, and `found` where `get_built_inverse_transform` gives all five, else `missing`; then how
 // many of the 110 numbers were found and how many are missing.
+#![tactic(auto)]
+
 ghost use Rattle.std.specs.Prelude.{◌≡◌, ◌≤◌, ◌<◌};
 ghost use Rattle.stored_rows.specs.Rows.{KeepsRule, same, agreeing, found_of};
 
 use built_coefficients::BuiltTransform;
-use libc::STDOUT_FILENO;
 use yuv_support::{CbCrInverseTransform, YuvMode, YuvRange, YuvStandardMatrix};
+
+const STDOUT_FILENO: i32 = 1;
 
 // Depth, the codes of range and matrix, then y, cr, cb, g1, g2.
 const ROWS: [[u32; 8]; 22] = [
@@ -35,7 +38,7 @@ const ROWS: [[u32; 8]; 22] = [
 ];
 
 // A row that the source stores, and the setting that it belongs to.
-#[derive(Drop)]
+#[derive(Clone, Copy)]
 struct StoredRow {
     depth: u32,
     range: YuvRange,

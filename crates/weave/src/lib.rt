@@ -1,5 +1,7 @@
 // Chroma woven together and taken apart, at both element widths, between planes of any strides. Nothing is asked of the caller.
 // The sides are those of the chroma plane. A call that a question refuses changes no plane.
+#![tactic(auto)]
+
 ghost use Rattle.std.specs.Prelude.{◌≡◌, ◌∷◌, [], ◌≤◌};
 ghost use Rattle.yuv_support.specs.Questions.{verdict, extent};
 ghost use Rattle.yuv_error.specs.Told.{told};

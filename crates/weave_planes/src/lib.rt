@@ -1,5 +1,7 @@
 // Chroma woven together and taken apart, at both element widths: rows, then planes. A woven row has U and V samples alternating, U first.
 // The loops that take rows apart are shaped for the compiler, which then reads two samples as one number.
+#![tactic(auto)]
+
 ghost use Rattle.std.specs.Prelude.{◌≡◌, ◌+◌, ◌*◌, ◌%◌, ◌≤◌, ◌<◌, length, get_or};
 ghost use Rattle.yuv_support.specs.Picture.{row_of};
 ghost use Rattle.numerics.specs.Row.{at};

@@ -1,5 +1,7 @@
 // YUV4MPEG2 streams: the header and the frames read into lent planes, and written, at both element widths. Nothing is asked of the caller.
 // A call that a question refuses changes no buffer.
+#![tactic(auto)]
+
 ghost use Rattle.std.specs.Prelude.{◌≡◌, cond, ◌≤◌, length};
 ghost use Rattle.std.proofs.lemmas.List.Edits.{sets};
 ghost use Rattle.yuv_support.specs.Settings.{sampling_of};
@@ -23,7 +25,7 @@ use yuv_support::YuvPlanarImage;
 // The answer of a call that reads: number, expected and received; the place to go on at; what the header says; and whether a frame was
 // read, 1 or 0.
 #[repr(C)]
-#[derive(Drop)]
+#[derive(Clone, Copy)]
 pub struct Y4mFrame {
     pub number: u64,
     pub expected: u64,
@@ -38,7 +40,7 @@ pub struct Y4mFrame {
 
 // The answer of a call that writes: number, expected and received, and the bytes written.
 #[repr(C)]
-#[derive(Drop)]
+#[derive(Clone, Copy)]
 pub struct Written {
     pub number: u64,
     pub expected: u64,

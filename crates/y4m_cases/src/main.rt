@@ -1,8 +1,11 @@
 // A small stored stream, damaged ones, and what is written: a line each with a name, what the library answers, and the planes or the output
 // after the call. The samples are letters.
-use libc::STDOUT_FILENO;
+#![tactic(auto)]
+
 use y4m::{Written, Y4mFrame};
 use yuv_support::YuvPlanarImage;
+
+const STDOUT_FILENO: i32 = 1;
 
 fn put(n: u64) {
     io::write_all(STDOUT_FILENO, b" ");

@@ -1,5 +1,7 @@
 // Where the frames of a YUV4MPEG2 stream stand, and the questions that a call for one is asked: 16 to 18 of the stream, then 7 to 12 of the
 // lent planes.
+#![tactic(auto)]
+
 ghost use Rattle.std.specs.Prelude.{◌≡◌, true, cond, ◌&&◌, ◌*◌, ◌≤◌, eqb, length};
 ghost use Rattle.yuv_support.specs.Settings.{among};
 ghost use Rattle.y4m_lines.specs.Lines.{past_line};
@@ -17,7 +19,7 @@ use yuv_error::YuvError;
 use yuv_support::YuvPlanarImage;
 
 // The strides of the lent planes.
-#[derive(Drop)]
+#[derive(Clone, Copy)]
 pub struct Strides {
     pub y: u32,
     pub u: u32,
@@ -25,7 +27,7 @@ pub struct Strides {
 }
 
 // What stands at a place of a stream: no frame line, the stream's end, or a frame, by the place of its samples.
-#[derive(Drop)]
+#[derive(Clone, Copy)]
 enum Spot {
     NoPlace,
     End,
@@ -33,7 +35,7 @@ enum Spot {
 }
 
 // Where the planes of a frame begin, and where the frame ends.
-#[derive(Drop)]
+#[derive(Clone, Copy)]
 pub struct Places {
     pub y: usize,
     pub u: usize,
@@ -42,7 +44,7 @@ pub struct Places {
 }
 
 // What is told of a frame before it is read, and where its planes stand where it is to be read.
-#[derive(Drop)]
+#[derive(Clone, Copy)]
 pub struct Judged {
     pub answer: YuvError,
     pub header: Header,

@@ -1,25 +1,27 @@
 // The two kinds of lines of a YUV4MPEG2 stream, the header and the frame line, as they are read.
+#![tactic(auto)]
+
 ghost use Rattle.std.specs.Prelude.{◌≡◌, ◌+◌, ◌≤◌, min, length, drop};
 ghost use Rattle.y4m_lines.specs.Lines.{before, fields, none_empty};
 ghost use Rattle.y4m_lines.specs.Header.{same_text, named, format_of};
 ghost use Rattle.y4m_lines.specs.Read.{line_read, frame_line_read, FieldIs, capped, number_read, side_read, colour_read, header_read};
 
 // A line, by the place of its byte 10.
-#[derive(Drop)]
+#[derive(Clone, Copy)]
 pub enum Line {
     Until(usize),
     NoLine,
 }
 
 // The sampling's code and the depth. A depth of 0 stands for a name that is not known.
-#[derive(Drop)]
+#[derive(Clone, Copy)]
 pub struct Format {
     pub sampling: u32,
     pub depth: u32,
 }
 
 // What a header says, and the place after it. 16,385 stands for every larger side.
-#[derive(Drop)]
+#[derive(Clone, Copy)]
 pub struct Header {
     pub width: u32,
     pub height: u32,
@@ -27,27 +29,27 @@ pub struct Header {
     pub past: usize,
 }
 
-#[derive(Drop)]
+#[derive(Clone, Copy)]
 pub enum HeaderLine {
     Formed(Header),
     Malformed,
 }
 
 // The fields of a line that begin with one letter: where the only one's text stands.
-#[derive(Drop)]
+#[derive(Clone, Copy)]
 enum Field {
     Absent,
     Single(usize, usize),
     Several,
 }
 
-#[derive(Drop)]
+#[derive(Clone, Copy)]
 enum Side {
     Value(u32),
     NoSide,
 }
 
-#[derive(Drop)]
+#[derive(Clone, Copy)]
 enum Colour {
     Named(Format),
     Repeated,

@@ -73,7 +73,7 @@ copied_run {from} {to₀} {to} {n} {i} (v ∷ vs) c fits hf ht same =
     let e : i + suc (length vs) ≡ i + 1 + length vs = omega arith in
     let s : suc i ≡ i + 1 = omega arith in
     rw (e, s)
-    (copied_run vs (rw v_is at (copied_one c (omega arith) hf ht)) (omega arith) hf ht
+    (copied_run {to = set to i v} vs (rw v_is at (copied_one c (omega arith) hf ht)) (omega arith) hf ht
     (λ j b. let p : i + suc j ≡ i + 1 + j = omega arith in rw p at (same (suc j) (omega arith))))
 
 pub record RowWritten (e : Element) (row out₀ out : List ℕ) (i : ℕ) : Type 0 where

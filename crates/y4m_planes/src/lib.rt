@@ -1,4 +1,6 @@
 // The samples of a plane as bytes of a stream, read and written row by row at both element widths.
+#![tactic(auto)]
+
 ghost use Rattle.std.specs.Prelude.{◌≡◌, ◌+◌, ◌*◌, ◌≤◌, length};
 ghost use Rattle.yuv_support.specs.Picture.{row_of};
 ghost use Rattle.yuv_support.specs.Questions.{needed};
@@ -6,7 +8,7 @@ ghost use Rattle.sheet_writing.specs.Text.{Wrote};
 ghost use Rattle.y4m_planes.specs.Planes.{size_of, sample_at, row_bytes, plane_bytes, plane_read};
 
 // The element of a plane: u8 or u16.
-#[derive(Drop)]
+#[derive(Clone, Copy)]
 pub enum Element {
     Byte,
     Word,

@@ -1,10 +1,12 @@
 // The header line of a YUV4MPEG2 stream, as it is written: a short text that goes in by value and comes back with more behind it.
+#![tactic(auto)]
+
 ghost use Rattle.std.specs.Prelude.{◌≡◌, [], ◌∷◌, ◌++◌, ◌+◌, ◌≤◌, ◌<◌, length};
 ghost use Rattle.sheet_writing.specs.Text.{leading_digit, decimal_text};
 ghost use Rattle.y4m_text.specs.Write.{name_of, header_text, held};
 
 // A short text: its first `length` bytes.
-#[derive(Drop)]
+#[derive(Clone, Copy)]
 pub struct Text {
     pub bytes: [u8; 40],
     pub length: usize,

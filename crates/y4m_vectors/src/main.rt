@@ -6,19 +6,23 @@
 // call, one byte each in kind 1 and two, the high byte first, in kind 2. The numbers: 0 the kind, 0 for the header alone, 1 for a read into
 // planes of bytes, 2 into planes of u16; 1 the stream's length; 2 the place; 3 to 5 the strides of Y, U and V; 6 to 8 their lengths, 0 in
 // kind 0; 9 to 12 number, expected, received and next; 13 to 17 width, height, sampling, depth and found. Before the call every element is 170.
+#![tactic(auto)]
+
 ghost use Rattle.std.specs.Prelude.{◌≤◌};
 
-use libc::{STDIN_FILENO, STDOUT_FILENO};
 use y4m::Y4mFrame;
 
-#[derive(Drop)]
+const STDIN_FILENO: i32 = 0;
+const STDOUT_FILENO: i32 = 1;
+
+#[derive(Clone, Copy)]
 struct Column {
     value: u64,
     next: usize,
 }
 
 // Whether all that was compared is the same, and the place after it.
-#[derive(Drop)]
+#[derive(Clone, Copy)]
 struct Compared {
     same: bool,
     next: usize,

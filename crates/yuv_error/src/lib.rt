@@ -1,5 +1,7 @@
 // The answer of a call, by name, and the checks of one buffer: questions 3 to 12 of document 01.
 // Lengths and products are judged in 64 bits, where none of them wraps.
+#![tactic(auto)]
+
 ghost use Rattle.std.specs.Prelude.{◌≡◌, ℕ, ◌≤◌, ◌*◌, eqb, ◌∷◌, []};
 ghost use Rattle.yuv_support.specs.Counts.{unclipped};
 ghost use Rattle.yuv_support.specs.Questions.{verdict, at_least, extent, sides, needed, destination, plane};
@@ -8,14 +10,14 @@ ghost use Rattle.yuv_error.specs.Told.{told, fault_told, as_told, as_report, rep
 use yuv_support::Clipped;
 
 // What was needed and what was there.
-#[derive(Drop)]
+#[derive(Clone, Copy)]
 pub struct MismatchedSize {
     pub expected: u64,
     pub received: u64,
 }
 
 // Accepted, or the first question that got a "no". The names are the source's; its one name for the four chroma questions is four here.
-#[derive(Drop)]
+#[derive(Clone, Copy)]
 pub enum YuvError {
     Accepted,
     // 1, where the source panics
@@ -60,7 +62,7 @@ pub enum YuvError {
 
 // The same as numbers.
 #[repr(C)]
-#[derive(Drop)]
+#[derive(Clone, Copy)]
 pub struct Told {
     pub number: u64,
     pub expected: u64,
@@ -68,7 +70,7 @@ pub struct Told {
 }
 
 // The answer of a conversion: what was answered, and what was clipped.
-#[derive(Drop)]
+#[derive(Clone, Copy)]
 pub struct Converted {
     pub answer: YuvError,
     pub clipped: Clipped,
@@ -76,7 +78,7 @@ pub struct Converted {
 
 // The same as numbers.
 #[repr(C)]
-#[derive(Drop)]
+#[derive(Clone, Copy)]
 pub struct Report {
     pub number: u64,
     pub expected: u64,
@@ -86,7 +88,7 @@ pub struct Report {
 }
 
 // The answer of a band: that of a conversion, how many rows were written, and the next first row.
-#[derive(Drop)]
+#[derive(Clone, Copy)]
 pub struct ConvertedBand {
     pub converted: Converted,
     pub rows: u32,
@@ -95,7 +97,7 @@ pub struct ConvertedBand {
 
 // The same as numbers.
 #[repr(C)]
-#[derive(Drop)]
+#[derive(Clone, Copy)]
 pub struct BandReport {
     pub number: u64,
     pub expected: u64,
@@ -113,7 +115,7 @@ fn sizes(expected: u64, received: u64) -> MismatchedSize
 }
 
 // What is wrong with a plane: its stride, or its length.
-#[derive(Drop)]
+#[derive(Clone, Copy)]
 enum PlaneFault {
     Nothing,
     Stride(MismatchedSize),

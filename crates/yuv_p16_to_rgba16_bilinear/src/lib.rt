@@ -1,5 +1,7 @@
 // Planar Y, Cb, Cr with u16 samples of 10 or 12 bits, in the low or in the high bits, to RGB, RGBA, BGRA or BGR, with bilinear chroma: the public conversion of a band of rows, and of the
 // whole picture. Nothing is asked of the caller. A call that a question refuses changes no buffer; an accepted one leaves the finished rows.
+#![tactic(auto)]
+
 ghost use Rattle.std.specs.Prelude.{◌≡◌, ◌+◌, ◌≤◌};
 ghost use Rattle.yuv_support.specs.Settings.{depths16, among};
 ghost use Rattle.yuv_support.specs.Blend.{frame_of};

@@ -1,20 +1,22 @@
 // The settings of a conversion as types: range, matrix, sampling, channel order, packing and mode, the two weights, the five coefficients.
 // Codes are decoded here and nowhere else. The definitions of a conversion stand in specs/, one module to a subject; those of the answers'
 // numbers, the settings used, the readers and the sheet in the specs of their own crates.
+#![tactic(auto)]
+
 ghost use Rattle.std.specs.Prelude.{◌≡◌, ◌-◌, ◌^◌, ◌<◌, ◌≤◌, T};
 ghost use Rattle.yuv_support.specs.Settings.{sampling_of, order_of, range_of, matrix_of, packing_of, last_packing, mode_of, among, depths, max_of, chroma_range_of};
 ghost use Rattle.yuv_support.specs.Picture.{channels_of};
 ghost use Rattle.yuv_support.specs.Questions.{decoded};
 
 // Which levels luma and chroma use.
-#[derive(Drop)]
+#[derive(Clone, Copy)]
 pub enum YuvRange {
     Limited,
     Full,
 }
 
 // Six matrices by name, and one that carries its own two weights.
-#[derive(Drop)]
+#[derive(Clone, Copy)]
 pub enum YuvStandardMatrix {
     Bt601,
     Bt709,
@@ -25,14 +27,14 @@ pub enum YuvStandardMatrix {
     Custom(f32, f32),
 }
 
-#[derive(Drop)]
+#[derive(Clone, Copy)]
 pub enum YuvChromaSubsampling {
     Yuv420,
     Yuv422,
 }
 
 // The letters of a pixel, in their order.
-#[derive(Drop)]
+#[derive(Clone, Copy)]
 pub enum YuvSourceChannels {
     Rgb,
     Rgba,
@@ -41,28 +43,28 @@ pub enum YuvSourceChannels {
 }
 
 // Which bits of its element a sample stands in: the low ones or the high ones.
-#[derive(Drop)]
+#[derive(Clone, Copy)]
 pub enum YuvBytesPacking {
     LeastSignificantBytes,
     MostSignificantBytes,
 }
 
 // Two departures of the source, kept or put right: the two-row tail of Cr, and `Smpte240` at 8 bits.
-#[derive(Drop)]
+#[derive(Clone, Copy)]
 pub enum YuvMode {
     AsSource,
     Matched,
 }
 
 // The weights kr and kb of a matrix.
-#[derive(Drop)]
+#[derive(Clone, Copy)]
 pub struct YuvBias {
     pub kr: f32,
     pub kb: f32,
 }
 
 // The five coefficients before they are scaled by 8192 and rounded.
-#[derive(Drop)]
+#[derive(Clone, Copy)]
 pub struct InverseTransformF32 {
     pub y: f32,
     pub cr: f32,
@@ -72,7 +74,7 @@ pub struct InverseTransformF32 {
 }
 
 // The five whole-number coefficients, times 8192.
-#[derive(Drop)]
+#[derive(Clone, Copy)]
 pub struct CbCrInverseTransform {
     pub y: u32,
     pub cr: u32,
@@ -82,7 +84,7 @@ pub struct CbCrInverseTransform {
 }
 
 // The biases and the ranges of luma and chroma at a depth and a range.
-#[derive(Drop)]
+#[derive(Clone, Copy)]
 pub struct YuvChromaRange {
     pub bias_y: u16,
     pub bias_uv: u16,
@@ -92,7 +94,7 @@ pub struct YuvChromaRange {
 
 // The codes and weights that a conversion is asked with.
 #[repr(C)]
-#[derive(Drop)]
+#[derive(Clone, Copy)]
 pub struct Codes {
     pub depth: u32,
     pub sampling: u32,
@@ -106,7 +108,7 @@ pub struct Codes {
 }
 
 // The settings of a conversion, decoded.
-#[derive(Drop)]
+#[derive(Clone, Copy)]
 pub struct Settings {
     pub depth: u32,
     pub sampling: YuvChromaSubsampling,
@@ -119,7 +121,7 @@ pub struct Settings {
 
 // The sides of a picture and the strides of its planes, which stand beside it as slices.
 #[repr(C)]
-#[derive(Drop)]
+#[derive(Clone, Copy)]
 pub struct YuvPlanarImage {
     pub width: u32,
     pub height: u32,
@@ -129,7 +131,7 @@ pub struct YuvPlanarImage {
 }
 
 // How many components of pixels lay below 0, and how many above the largest code, before they were clamped.
-#[derive(Drop)]
+#[derive(Clone, Copy)]
 pub struct Clipped {
     pub below: u32,
     pub above: u32,

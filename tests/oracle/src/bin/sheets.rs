@@ -38,12 +38,12 @@ fn refusal(text: &str) -> u64 {
 
 /// What the compiled program writes.
 fn program(input: &[u8]) -> Vec<u8> {
-    let path = std::env::var("DETHROWG_SHEET").unwrap_or("../../target/bin/sheet".into());
+    let path = std::env::var("DETHROWG_SHEET").unwrap_or("../../crates/sheet/out/sheet".into());
     let mut child = Command::new(path)
         .stdin(Stdio::piped())
         .stdout(Stdio::piped())
         .spawn()
-        .expect("target/bin/sheet: run rt check first");
+        .expect("crates/sheet/out/sheet: run `rt run` in crates/sheet first");
     let _ = child.stdin.take().unwrap().write_all(input);
     child.wait_with_output().unwrap().stdout
 }

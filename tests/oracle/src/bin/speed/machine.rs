@@ -40,11 +40,11 @@ fn rustc() -> String {
     format!("{}, LLVM {llvm}", version.lines().next().unwrap_or_default())
 }
 
-/// The kit's own, which stands beside its guide.
+/// The kit's own, which is beside its guide.
 fn compiler() -> String {
     let guide = told("rt", &["doc"]);
-    let kit = Path::new(&guide).ancestors().nth(2).unwrap_or(Path::new(""));
-    let clang = kit.join("on/x86_64/toolchain/bin/clang");
+    let kit = Path::new(&guide).ancestors().nth(1).unwrap_or(Path::new(""));
+    let clang = kit.join("toolchain/bin/clang");
     let version = told(&clang.to_string_lossy(), &["--version"]);
     version.lines().next().unwrap_or_default().into()
 }
