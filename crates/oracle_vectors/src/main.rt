@@ -17,6 +17,7 @@ use yuv_error::{BandReport, Report};
 use yuv_support::{Codes, YuvPlanarImage};
 
 const STDIN_FILENO: i32 = 0;
+
 const STDOUT_FILENO: i32 = 1;
 
 #[derive(Clone, Copy)]

@@ -2,8 +2,8 @@
 #![tactic(auto)]
 
 const STDIN_FILENO: i32 = 0;
-const STDOUT_FILENO: i32 = 1;
 
+const STDOUT_FILENO: i32 = 1;
 
 // One byte more than a sheet may have is read, so that a longer input is seen to be longer.
 fn main() {

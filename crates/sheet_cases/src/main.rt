@@ -7,7 +7,6 @@ ghost use Rattle.sheet_cases.specs.Lines.{Lines};
 
 const STDOUT_FILENO: i32 = 1;
 
-
 // The bytes, as far as they fit, from a place on; the place after them.
 fn put(buf: &mut [u8], at: usize, bytes: &[u8]) -> usize
     requires { at ≤ length buf.old }

@@ -13,6 +13,7 @@ ghost use Rattle.std.specs.Prelude.{◌≤◌};
 use y4m::Y4mFrame;
 
 const STDIN_FILENO: i32 = 0;
+
 const STDOUT_FILENO: i32 = 1;
 
 #[derive(Clone, Copy)]

@@ -13,6 +13,7 @@ module _ (sums : List ℕ) (j : ℕ) where
       let m : 2 * j % 2 ≡ 0 = omega arith in
       let d : 2 * j / 2 ≡ j = omega arith in
       rw (m, d)
+
   at_right : rounded (at sums j + 3 * at sums (j + 1)) ≡ across_at sums (2 * j + 1)
   at_right =
       let m : (2 * j + 1) % 2 ≡ 1 = omega arith in

@@ -29,11 +29,11 @@ unfolding verdict told
 returns-then-codes-gt1-2 c =
     let codes_of : Codes = c.args.codes in
     let known : let codes = codes_of in (leb codes.order 3 ≡ true) × (leb codes.range 1 ≡ true) × (leb codes.matrix 6 ≡ true) × (leb codes.packing (last_packing codes.depth) ≡ true) = (
-  le-leb _ _ c.if-codes-gt3.false,
-  le-leb _ _ c.if-codes-gt1.false,
-  le-leb _ _ c.if-codes-gt6.false,
-  le-leb _ _ (rw c.last_packing.ensures at c.if-last_packing-codes.false),
-) in
+      le-leb _ _ c.if-codes-gt3.false,
+      le-leb _ _ c.if-codes-gt1.false,
+      le-leb _ _ c.if-codes-gt6.false,
+      le-leb _ _ (rw c.last_packing.ensures at c.if-last_packing-codes.false),
+    ) in
     let k = known in simp (k.0, k.1, k.2, k.3, lt-leb _ _ c.if-codes-gt1-2.true)
 
 pub returns-then-depth_known : goal.returns-then-depth_known
@@ -41,11 +41,11 @@ unfolding verdict told
 returns-then-depth_known c =
     let codes_of : Codes = c.args.codes in
     let known : let codes = codes_of in (leb codes.order 3 ≡ true) × (leb codes.range 1 ≡ true) × (leb codes.matrix 6 ≡ true) × (leb codes.packing (last_packing codes.depth) ≡ true) = (
-  le-leb _ _ c.if-codes-gt3.false,
-  le-leb _ _ c.if-codes-gt1.false,
-  le-leb _ _ c.if-codes-gt6.false,
-  le-leb _ _ (rw c.last_packing.ensures at c.if-last_packing-codes.false),
-) in
+      le-leb _ _ c.if-codes-gt3.false,
+      le-leb _ _ c.if-codes-gt1.false,
+      le-leb _ _ c.if-codes-gt6.false,
+      le-leb _ _ (rw c.last_packing.ensures at c.if-last_packing-codes.false),
+    ) in
     let k = known in simp (k.0, k.1, k.2, k.3, le-leb _ _ c.if-codes-gt1-2.false, c.if-depth_known.true)
 
 pub returns : goal.returns
@@ -53,9 +53,9 @@ unfolding verdict told
 returns c =
     let codes_of : Codes = c.args.codes in
     let known : let codes = codes_of in (leb codes.order 3 ≡ true) × (leb codes.range 1 ≡ true) × (leb codes.matrix 6 ≡ true) × (leb codes.packing (last_packing codes.depth) ≡ true) = (
-  le-leb _ _ c.if-codes-gt3.false,
-  le-leb _ _ c.if-codes-gt1.false,
-  le-leb _ _ c.if-codes-gt6.false,
-  le-leb _ _ (rw c.last_packing.ensures at c.if-last_packing-codes.false),
-) in
+      le-leb _ _ c.if-codes-gt3.false,
+      le-leb _ _ c.if-codes-gt1.false,
+      le-leb _ _ c.if-codes-gt6.false,
+      le-leb _ _ (rw c.last_packing.ensures at c.if-last_packing-codes.false),
+    ) in
     let k = known in simp (k.0, k.1, k.2, k.3, le-leb _ _ c.if-codes-gt1-2.false, c.if-depth_known.false)

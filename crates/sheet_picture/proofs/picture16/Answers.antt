@@ -8,16 +8,16 @@ narrow16-requires-2 c = cb_asks c.requires c.chroma_count-m.ensures
 pub returns : goal.returns
 returns c =
     let narrowed : let args = c.args in Narrowed depths16 args.v args.y.now args.u.now args.w.now c.luma_count-n.result c.chroma_count-m.result c.narrow16.new.plane c.narrow16-2.new.plane c.narrow16-3.new.plane = record {
-  fit = c.requires.0;
-  luma_counted = c.luma_count-n.ensures;
-  chroma_counted = c.chroma_count-m.ensures;
-  luma = c.narrow16.ensures;
-  cb = c.narrow16-2.ensures;
-  cr = c.narrow16-3.ensures;
-  luma_long = c.narrow16.auto.plane;
-  cb_long = c.narrow16-2.auto.plane;
-  cr_long = c.narrow16-3.auto.plane;
-} in
+      fit = c.requires.0;
+      luma_counted = c.luma_count-n.ensures;
+      chroma_counted = c.chroma_count-m.ensures;
+      luma = c.narrow16.ensures;
+      cb = c.narrow16-2.ensures;
+      cr = c.narrow16-3.ensures;
+      luma_long = c.narrow16.auto.plane;
+      cb_long = c.narrow16-2.auto.plane;
+      cr_long = c.narrow16-3.auto.plane;
+    } in
     let made = c.yuv16_to_rgbx_bilinear-made in
     let planes = narrowed in
     let codes_are = c.codes_of.ensures in

@@ -9,12 +9,15 @@ module _ (o : YuvSourceChannels) where
   of_rgb : o ≡ Rgb → 0 ≡ place_in o red
   unfolding place_in
   of_rgb e = rw e
+
   of_rgba : o ≡ Rgba → 0 ≡ place_in o red
   unfolding place_in
   of_rgba e = rw e
+
   of_bgra : o ≡ Bgra → 2 ≡ place_in o red
   unfolding place_in
   of_bgra e = rw e
+
   of_bgr : o ≡ Bgr → 2 ≡ place_in o red
   unfolding place_in
   of_bgr e = rw e
