@@ -3,7 +3,6 @@
 use mathlib.Core.Path.{◌≡◌, ◌∙◌}
 use mathlib.Core.List.{List}
 use Prim.Native.Nat.{ℕ, ◌-◌, ◌*◌, ◌%◌, ◌≤◌, ◌<◌}
-use native.Mathlib.Omega.{arith}
 use lib.ListN.{take, get_or}
 use Rattle.yuv_support.specs.declared.YuvBytesPacking.TheVariants.{MostSignificantBytes}
 use Rattle.yuv_support.specs.declared.Settings.{Settings}

@@ -15,7 +15,7 @@ use lib.Dec.{lit<}
 use lib.ListN.{length, get_or, set, take, drop, length-drop}
 use lib.Seq.{sets, get_or-take, get_or-drop, length-take-le, get_or-set_same, get_or-set_other}
 use Rattle.yuv_support.specs.Blend.{rounded}
-use Rattle.yuv_support.specs.Picture.{overlay, up_to, row_of}
+use Rattle.yuv_support.specs.Picture.{up_to, row_of}
 use Rattle.yuv_support.proofs.Overlay.{overlay_length, overlay_at, is_overlay, up_none, up_sets, value_at, Values, part_back, below_or_not}
 use Rattle.numerics.specs.declared.Kernel.{Kernel}
 use Rattle.numerics.specs.Kernel.{letter_of}

@@ -15,7 +15,7 @@ use Rattle.yuv_support.specs.Counts.{together}
 use Rattle.yuv_support.proofs.Overlay.{below_or_not, value_at}
 use Rattle.numerics.specs.declared.Kernel.{Kernel}
 use Rattle.numerics.specs.Row.{row_value, at, pair_chroma, tailed, row_chroma, whole_value, clipped_over, whole_clipped, Begun, BlockFits, GroupsFit, RowFits}
-use Rattle.numerics.proofs.Row.{value_as, row_as, value_shifted, begun_as, begun_part, begun_whole, begun_filled, begun_kept, part_at, part_long}
+use Rattle.numerics.proofs.Row.{value_as, row_as, value_shifted, begun_part, begun_whole, begun_filled, begun_kept, part_at, part_long}
 use Rattle.numerics.proofs.Clips.{clipped_as, clipped_on}
 use Rattle.numerics.proofs.Choice.{some_letters}
 use Rattle.numerics.proofs.Parts.{cut}

@@ -1,7 +1,7 @@
 use mathlib.Core.List.{List}
 use Rattle.yuv_support.specs.Blend.{rounded}
 use mathlib.Core.Path.{◌≡◌, ◌∙◌}
-use Prim.Native.Nat.{ℕ, ◌+◌, ◌-◌, ◌*◌, ◌/◌, ◌%◌}
+use Prim.Native.Nat.{ℕ, ◌+◌, ◌*◌, ◌/◌, ◌%◌}
 use native.Mathlib.Omega.{arith}
 use Rattle.numerics.specs.Row.{at, across_at}
 use Rattle.numerics.proofs.Row.{begun_none, begun_more}

@@ -1,5 +1,4 @@
 use mathlib.Core.Path.{sym, ◌∙◌}
-use Prim.Native.Nat.{◌-◌}
 use native.Mathlib.Omega.{arith}
 use Rattle.numerics.proofs.Row.{begun_none}
 use Rattle.blocks16.proofs.Chroma.{pair_begun, across_left, across_right, same_left, same_right}

@@ -1,5 +1,4 @@
 use mathlib.Core.Path.{refl}
-use Prim.Native.Nat.{◌-◌}
 use native.Mathlib.Omega.{arith}
 use Rattle.yuv_support.specs.Picture.{band}
 use Rattle.kernel.proofs.Loops.{rows_begin, rows_next, rows_end, counted_begin, counted_room, counted_next, counted_end}

@@ -3,7 +3,6 @@ use mathlib.Core.Path.{◌≡◌}
 use Prim.Native.Nat.{◌+◌, ◌-◌, min}
 use native.Mathlib.Omega.{arith}
 use Rattle.yuv_support.specs.Picture.{band_rows}
-use mathlib.Core.Bool.{not}
 use Rattle.images.proofs.band_rows.Goals as goal
 
 -- the rows left reach the last row

@@ -4,7 +4,7 @@ use native.Mathlib.Omega.{arith}
 use Rattle.numerics.specs.Row.{tailed}
 use Rattle.numerics.proofs.Row.{begun_length}
 use Rattle.numerics.proofs.Parts.{tailed_part}
-use Rattle.interpolate16.proofs.Moved.{group_fits, group_few, group_row, group_counted}
+use Rattle.interpolate16.proofs.Moved.{group_few, group_row, group_counted}
 use Rattle.interpolate16.proofs.group.Goals as goal
 
 pub counted-requires : goal.counted-requires

@@ -1,7 +1,6 @@
 use mathlib.Core.Path.{◌≡◌, sym, ◌∙◌}
 use Rattle.sheet_numbers.proofs.OneNumber.{passed_none, passed_one, passed_stop, passed_five}
 use Rattle.sheet_numbers.specs.Numbers.{is_digit}
-use Prim.Native.Nat.{◌-◌}
 use mathlib.Core.Bool.{true}
 use Rattle.sheet_numbers.proofs.read_digits.Goals as goal
 

@@ -1,5 +1,4 @@
 use Rattle.sheet_numbers.proofs.ManyNumbers.{reading_none, reading_one, reading_missed, reading_above, reading_done}
-use Prim.Native.Nat.{◌-◌}
 use Rattle.sheet_numbers.proofs.read_lines.Goals as goal
 
 pub loop-i-init : goal.loop-i-init

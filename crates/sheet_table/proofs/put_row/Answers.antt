@@ -1,6 +1,5 @@
 use Rattle.sheet_writing.proofs.Write.{joining_none, joining_one, joining_room}
 use Rattle.sheet_table.proofs.Shown.{pixel_text_length}
-use Prim.Native.Nat.{◌-◌}
 use native.Mathlib.Omega.{arith}
 use Rattle.sheet_table.proofs.put_row.Goals as goal
 

@@ -1,6 +1,5 @@
 use Rattle.sheet_writing.proofs.Write.{joining_none, joining_one, joining_room}
 use Rattle.sheet_table.proofs.Shown.{row_length}
-use Prim.Native.Nat.{◌-◌}
 use native.Mathlib.Omega.{arith}
 use Rattle.sheet_table.proofs.put_rows.Goals as goal
 

@@ -1,5 +1,4 @@
 use Rattle.sheet_writing.proofs.Write.{wrote_one}
-use Prim.Native.Nat.{◌-◌}
 use native.Mathlib.Omega.{arith}
 use Rattle.sheet_writing.proofs.put_bytes.Goals as goal
 

@@ -1,4 +1,3 @@
-use Prim.Native.Nat.{◌-◌}
 use Rattle.weave_planes.proofs.Planes.{unweave_begin, unweave_next, unweave_end}
 use Rattle.weave_planes.proofs.unweave_plane8.Goals as goal
 

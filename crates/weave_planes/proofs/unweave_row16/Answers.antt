@@ -1,4 +1,4 @@
-use Prim.Native.Nat.{◌*◌, ◌-◌}
+use Prim.Native.Nat.{◌*◌}
 use native.Mathlib.Omega.{arith}
 use Rattle.weave_planes.proofs.Rows.{unweave_none, unweave_more, u_all, v_all}
 use Rattle.weave_planes.proofs.unweave_row16.Goals as goal

@@ -1,4 +1,3 @@
-use Prim.Native.Nat.{◌-◌}
 use Rattle.weave_planes.proofs.Planes.{weave_begin, weave_next, weave_end}
 use Rattle.weave_planes.proofs.weave_plane8.Goals as goal
 

@@ -1,4 +1,3 @@
-use Prim.Native.Nat.{◌-◌}
 use Rattle.weave_planes.proofs.Rows.{weave_none, weave_more, weave_all}
 use Rattle.weave_planes.proofs.weave_row16.Goals as goal
 

@@ -4,7 +4,6 @@ use Rattle.yuv_support.specs.Questions.{ask, verdict, sides}
 use Rattle.yuv_error.specs.Told.{told}
 use mathlib.Core.List.{◌∷◌}
 use Rattle.yuv_error.specs.declared.YuvError.TheVariants.{UnknownCode}
-use mathlib.Core.Bool.{not}
 use Rattle.y4m.proofs.check_format.Goals as goal
 
 -- 2, 3 and 4 where the depth is known, and 2 where it is not

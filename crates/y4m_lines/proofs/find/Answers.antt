@@ -1,5 +1,4 @@
 use Rattle.y4m_lines.proofs.Fields.{passed_one, passed_found}
-use Prim.Native.Nat.{◌-◌}
 use Rattle.y4m_lines.proofs.find.Goals as goal
 
 pub returns-then-s-at : goal.returns-then-s-at

@@ -1,5 +1,4 @@
 use Rattle.y4m_lines.proofs.Fields.{one_empty, none_left, not_yet_one, end_within}
-use Prim.Native.Nat.{◌-◌}
 use native.Mathlib.Omega.{arith}
 use Rattle.y4m_lines.proofs.none_empty.Goals as goal
 

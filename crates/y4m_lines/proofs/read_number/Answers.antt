@@ -1,6 +1,5 @@
 use mathlib.Core.Path.{◌≡◌, sym, ◌∙◌}
 use mathlib.Core.Bool.{true}
-use Prim.Native.Nat.{◌-◌}
 use Rattle.sheet_numbers.specs.Numbers.{byte_at, is_digit}
 use Rattle.y4m_lines.proofs.HeaderLaws.{digits_none, digits_one, digits_missed, digits_all, no_digits}
 use Rattle.y4m_lines.proofs.read_number.Goals as goal

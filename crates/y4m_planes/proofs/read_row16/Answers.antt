@@ -1,5 +1,4 @@
 use mathlib.Core.Path.{refl}
-use Prim.Native.Nat.{◌-◌}
 use Rattle.y4m_planes.specs.Planes.{sample_at}
 use Rattle.y4m_planes.proofs.Rows.{read_one, read_all}
 use Rattle.y4m_planes.proofs.read_row16.Goals as goal

@@ -1,5 +1,5 @@
 use mathlib.Core.Path.{◌≡◌}
-use Prim.Native.Nat.{◌*◌, ◌-◌}
+use Prim.Native.Nat.{◌*◌}
 use native.Mathlib.Omega.{arith}
 use Rattle.y4m_planes.specs.Planes.{sample_at}
 use Rattle.y4m_planes.proofs.Rows.{read_one, read_all}

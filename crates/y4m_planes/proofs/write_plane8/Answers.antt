@@ -1,5 +1,4 @@
 use mathlib.Core.Path.{ap, ◌∙◌}
-use Prim.Native.Nat.{◌-◌}
 use native.Mathlib.Omega.{arith}
 use Rattle.y4m_planes.specs.declared.Element.TheVariants.{Byte}
 use Rattle.y4m_planes.specs.Planes.{size_of, row_bytes}

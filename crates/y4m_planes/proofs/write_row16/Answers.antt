@@ -1,5 +1,5 @@
 use mathlib.Core.Path.{◌≡◌}
-use Prim.Native.Nat.{suc, ◌+◌, ◌*◌, ◌-◌}
+use Prim.Native.Nat.{suc, ◌+◌, ◌*◌}
 use native.Mathlib.Omega.{arith}
 use Rattle.y4m_planes.specs.Planes.{size_of, bytes_of}
 use Rattle.y4m_planes.proofs.Rows.{write_none, write_one, write_all}
