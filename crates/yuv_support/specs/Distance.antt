@@ -56,7 +56,7 @@ bound_num d = cond (eqb d 8) 8 (cond (eqb d 10) 17 2)
 unfoldable pub bound_den : ℕ → ℕ
 bound_den d = cond (eqb d 8) 5 (cond (eqb d 10) 10 1)
 
--- the component x, times D, and E clamped to 0..M-as-D lie less than the depth's bound times D apart, multiplied out
+-- the component x, times D, and E clamped to 0..M·D lie less than the depth's bound times D apart, multiplied out
 unfoldable pub Close : ℕ → YuvRange → YuvStandardMatrix → ℕ → ℤ → Type 0
 Close d r m x e = bound_den d * apart (x * denominator d r m) (clamp (max_of d * denominator d r m) e) < bound_num d * denominator d r m
 
