@@ -35,7 +35,7 @@ use Rattle.y4m.specs.declared.Y4mFrame.{Y4mFrame}
 use Rattle.y4m.specs.declared.Written.{Written}
 use Rattle.y4m.specs.Reading.{header_told, frame_told, y_after, u_after, v_after}
 use Rattle.y4m.specs.Writing.{header_written, after_header, frame_written, after_frame}
-use Rattle.weave_planes.specs.Woven.{lent as plane_of}
+use Rattle.weave_planes.specs.Woven.{lent as lent_plane}
 use Rattle.weave.specs.Weaving.{weave_questions, after_weaving, u_after_unweaving, v_after_unweaving}
 use Rattle.marked_cases.specs.Sheet.{marked_input, marked_output}
 use Rattle.marked_cases.specs.Streams.{word, w0, w2, w16384, w16385, h1, h2, c420, c420jpeg, c422, c422p10, passed_over, ended, header2x2, header1x1, frame_word, samples_short, samples, frame2x2, frame1x1}
@@ -333,13 +333,13 @@ pub record Marked : Type 0 where
       ≡ 7 ∷ 7 ∷ 7 ∷ 7 ∷ 7 ∷ 7 ∷ 30 ∷ 30 ∷ 30 ∷ []
   -- slip 8: "each row's U and V samples alternating, U first"; all else is kept
   pub woven_plane :
-      after_weaving 2 2 (plane_of (10 ∷ 20 ∷ 9 ∷ 30 ∷ 40 ∷ []) 3) (plane_of (50 ∷ 60 ∷ 70 ∷ 80 ∷ []) 2) (plane_of (replicate 10 7) 5)
+      after_weaving 2 2 (lent_plane (10 ∷ 20 ∷ 9 ∷ 30 ∷ 40 ∷ []) 3) (lent_plane (50 ∷ 60 ∷ 70 ∷ 80 ∷ []) 2) (lent_plane (replicate 10 7) 5)
       ≡ 10 ∷ 50 ∷ 20 ∷ 60 ∷ 7 ∷ 30 ∷ 70 ∷ 40 ∷ 80 ∷ 7 ∷ []
   -- its undoing
   pub unwoven_planes :
-      let uv = plane_of (10 ∷ 50 ∷ 20 ∷ 60 ∷ 9 ∷ 30 ∷ 70 ∷ 40 ∷ 80 ∷ []) 5 in
-      (u_after_unweaving 2 2 (plane_of (replicate 6 7) 3) (plane_of (replicate 5 7) 2) uv ≡ 10 ∷ 20 ∷ 7 ∷ 30 ∷ 40 ∷ 7 ∷ [])
-      × (v_after_unweaving 2 2 (plane_of (replicate 6 7) 3) (plane_of (replicate 5 7) 2) uv ≡ 50 ∷ 60 ∷ 70 ∷ 80 ∷ 7 ∷ [])
+      let uv = lent_plane (10 ∷ 50 ∷ 20 ∷ 60 ∷ 9 ∷ 30 ∷ 70 ∷ 40 ∷ 80 ∷ []) 5 in
+      (u_after_unweaving 2 2 (lent_plane (replicate 6 7) 3) (lent_plane (replicate 5 7) 2) uv ≡ 10 ∷ 20 ∷ 7 ∷ 30 ∷ 40 ∷ 7 ∷ [])
+      × (v_after_unweaving 2 2 (lent_plane (replicate 6 7) 3) (lent_plane (replicate 5 7) 2) uv ≡ 50 ∷ 60 ∷ 70 ∷ 80 ∷ 7 ∷ [])
   -- "It refuses 22 for a plane short by the form of 5 or a stride below the row, after questions 3 and 4"
   pub planes_usable :
       (weave_on 2 2 (extent 4 2) (extent 4 2) (extent 8 4) ≡ accepted)
@@ -351,4 +351,4 @@ pub record Marked : Type 0 where
       × (weave_on 16385 1 (extent 0 0) (extent 0 0) (extent 0 0) ≡ refused 4)
       × (weave_on 2 0 (extent 0 0) (extent 0 0) (extent 0 0) ≡ refused 3)
   -- a refused call changes nothing
-  pub not_woven : after_weaving 2 2 (plane_of (10 ∷ 20 ∷ 30 ∷ []) 2) (plane_of (50 ∷ 60 ∷ 70 ∷ 80 ∷ []) 2) (plane_of (replicate 8 7) 4) ≡ replicate 8 7
+  pub not_woven : after_weaving 2 2 (lent_plane (10 ∷ 20 ∷ 30 ∷ []) 2) (lent_plane (50 ∷ 60 ∷ 70 ∷ 80 ∷ []) 2) (lent_plane (replicate 8 7) 4) ≡ replicate 8 7
