@@ -10,7 +10,7 @@
 // tests/oracle: the Rust does not count, and has no such mode.
 #![tactic(auto)]
 
-ghost use Rattle.std.specs.Prelude.{◌≡◌, ◌+◌, ◌≤◌, ◌<◌, length};
+ghost use Rattle.std.specs.Prelude.{◌≤◌, ◌<◌, ◌^◌};
 
 use yuv_error::{BandReport, Report};
 use yuv_support::{Codes, YuvPlanarImage};
@@ -29,35 +29,12 @@ fn wide(byte: u8) -> u16 {
     byte as u16
 }
 
-// The list: the bytes of two arrays, one after the other.
-#[derive(Clone, Copy)]
-struct List<'a> {
-    first: &'a [u8],
-    second: &'a [u8],
-}
-
-fn length_of(list: List) -> usize
-    ensures { result ≡ length list.entry.first.now + length list.entry.second.now }
-{
-    list.first.len() + list.second.len()
-}
-
-fn byte_at(list: List, at: usize) -> u8
-    requires { at < length list.first.now + length list.second.now }
-{
-    if at < list.first.len() {
-        return list.first[at];
-    }
-    list.second[at - list.first.len()]
-}
-
 // The decimal number at a place of the list, and the place after the space or line end that follows it.
-fn number(list: List, from: usize) -> Column {
-    let end = length_of(list);
+fn number(list: &[u8], from: usize) -> Column {
     let mut value: u64 = 0;
     let mut at = from;
-    while at < end {
-        let byte = byte_at(list, at);
+    while at < list.len() {
+        let byte = list[at];
         at += 1;
         if byte <= 32 {
             return Column { value, next: at };
@@ -68,7 +45,7 @@ fn number(list: List, from: usize) -> Column {
 }
 
 // The columns of a line, and the place after it.
-fn read_row(list: List, from: usize, row: &mut [u64; 36]) -> usize {
+fn read_row(list: &[u8], from: usize, row: &mut [u64; 36]) -> usize {
     let mut at = from;
     let mut column: usize = 0;
     while column < 36 {
@@ -562,13 +539,12 @@ fn different(row: &[u64; 36]) -> u64
 }
 
 // The names are read as a line that is not compared. A line takes at least a byte, so the list has no more lines than bytes.
-fn replay_all(list: List) {
-    let end = length_of(list);
+fn replay_all(list: &[u8]) {
     let mut row = [0u64; 36];
     let mut at = read_row(list, 0, &mut row);
     let mut compared: u64 = 0;
     let mut differing: u64 = 0;
-    while compared < end as u64 && at < end {
+    while compared < list.len() as u64 && at < list.len() {
         at = read_row(list, at, &mut row);
         differing += different(&row);
         compared += 1;
@@ -580,14 +556,16 @@ fn replay_all(list: List) {
     io::write_all(STDOUT_FILENO, b" different\n");
 }
 
+// Replays the list that is read, with room for N bytes. N is a parameter, since the prover cannot lend an array of 524,288 elements.
+fn replay_read<const N: usize>()
+    requires { N < 2 ^ 63 }
+{
+    let mut list = [0u8; N];
+    let n = io::read_full(STDIN_FILENO, &mut list);
+    replay_all(&list[..n]);
+}
+
 // A list longer than the room would be cut, and the count of answers would show it.
 fn main() {
-    let mut first = [0u8; 262144];
-    let mut second = [0u8; 262144];
-    let n = io::read_full(STDIN_FILENO, &mut first);
-    let m = io::read_full(STDIN_FILENO, &mut second);
-    replay_all(List {
-        first: &first[..n],
-        second: &second[..m],
-    });
+    replay_read::<524288>();
 }
