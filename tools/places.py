@@ -114,6 +114,14 @@ say('2 of them exports, which C needs',
 
 say('3 `while` and `loop`', [f.place() for f in functions for _ in re.findall(r'\bwhile\b|\bloop\b', f.body)])
 
+indexed = []
+for f in functions:
+    for m in re.finditer(r'\bfor (\w+) in [^{]*\.\.[^{]*\{', f.body):
+        inside = f.body[m.end():closing(f.body, m.end() - 1)]
+        if re.search(r'\[[^\]]*\b%s\b' % m.group(1), inside):
+            indexed.append(f.place())
+say('3 `for` over a range whose variable is an index', indexed)
+
 say('4 comparing and converting by hand: by name',
     [f.place() for f in functions
      if re.match(r'(lesser|at_most|at_most_\d+|saturating_sub32|same|is_same\w*|is_text|begins_with|is_digit|narrow(8|16)?|widen(8|16)?|wide(8|16)?)$', f.name)])
@@ -137,6 +145,9 @@ say('6 fixed arrays made',
     [f.place() + ' ' + a for f in functions for a in re.findall(r'\[[\w.]+; ?\w+\]', f.body)])
 
 say('7 flags that choose a step', [f.place() + ': ' + p for f in functions for p in f.parameters if re.search(r': bool$', p)])
+
+say('7 const parameters that are flags',
+    sorted({c + ' ' + n for c, t in texts.values() for n in re.findall(r'\bif (\w+) == 1 \{', t) if re.search(r'\bconst %s: usize' % n, t)}))
 
 for name in ('Answers', 'Invariants', 'Proof'):
     files = glob.glob('crates/*/proofs/**/%s.antt' % name, recursive=True)

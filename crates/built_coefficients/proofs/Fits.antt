@@ -4,9 +4,11 @@ use Prim.Native.Nat.{ℕ, ◌-◌, ◌*◌, ◌/◌, ◌^◌, ◌≤◌, ◌<◌
 use native.Mathlib.Nat.{mul-le-mul, div-le_of_le-mul, lt_of_le_of_lt}
 use native.Mathlib.Omega.{arith}
 use lib.Dec.{T}
+use mathlib.Core.Path.{◌≡◌}
+use Rattle.yuv_support.specs.declared.YuvChromaRange.{YuvChromaRange}
 use Rattle.yuv_support.specs.declared.YuvRange.{YuvRange}
 use Rattle.yuv_support.specs.declared.YuvRange.TheVariants.{Limited, Full}
-use Rattle.yuv_support.specs.Settings.{among, depths, max_of, range_y, range_c}
+use Rattle.yuv_support.specs.Settings.{among, depths, max_of, range_y, range_c, chroma_range_of}
 use Rattle.yuv_support.proofs.Depths.{by_depth}
 use Rattle.built_coefficients.specs.Built.{AtMostTwo}
 
@@ -29,12 +31,17 @@ inner_below kg range h w =
     let p : 10000 * kg ≤ 100000000 = omega arith in
     mul-le-mul p w
 
-pub luma_range : (d : ℕ) (r : YuvRange) → T (among d depths) → AtMostTwo (max_of d) (range_y d r)
+luma_range : (d : ℕ) (r : YuvRange) → T (among d depths) → AtMostTwo (max_of d) (range_y d r)
 unfolding max_of range_y
 luma_range d Limited t = by_depth (λ d. AtMostTwo (max_of d) (range_y d Limited)) (omega arith, omega arith) (omega arith, omega arith) (omega arith, omega arith) d t
 luma_range d Full t = by_depth (λ d. AtMostTwo (max_of d) (range_y d Full)) (omega arith, omega arith) (omega arith, omega arith) (omega arith, omega arith) d t
 
-pub chroma_range : (d : ℕ) (r : YuvRange) → T (among d depths) → AtMostTwo (max_of d) (range_c d r)
+chroma_range : (d : ℕ) (r : YuvRange) → T (among d depths) → AtMostTwo (max_of d) (range_c d r)
 unfolding max_of range_c
 chroma_range d Limited t = by_depth (λ d. AtMostTwo (max_of d) (range_c d Limited)) (omega arith, omega arith) (omega arith, omega arith) (omega arith, omega arith) d t
 chroma_range d Full t = by_depth (λ d. AtMostTwo (max_of d) (range_c d Full)) (omega arith, omega arith) (omega arith, omega arith) (omega arith, omega arith) d t
+
+-- of what the code finds of a depth and a range
+pub ranges : {m : ℕ} {found : YuvChromaRange} (d : ℕ) (r : YuvRange) → T (among d depths) → m ≡ max_of d → found ≡ chroma_range_of d r
+    → AtMostTwo m found.range_y × AtMostTwo m found.range_uv
+ranges d r t e f = rw (e, f) (luma_range d r t, chroma_range d r t)

@@ -1,5 +1,6 @@
 -- The weights of a matrix are those by which its rows are stored, and the row by them is the setting's.
 -- Assumes nothing.
+use Rattle.std.specs.Prelude.{Some, None}
 use mathlib.Core.Path.{◌≡◌, refl, ap, sym, ◌∙◌}
 use mathlib.Core.Bool.{Bool, true, false, not}
 use mathlib.Core.List.{List, [], ◌∷◌}
@@ -20,7 +21,6 @@ use Rattle.yuv_support.specs.Coefficients.{is_stored, stored_of}
 use Rattle.yuv_support.proofs.Coefficients.{stored_known}
 use Rattle.yuv_support.specs.contracts.YuvStandardMatrix.{the_type}
 use Rattle.built_coefficients.specs.declared.Weights.{Weights}
-use Rattle.built_coefficients.specs.declared.BuiltTransform.TheVariants.{Row, NoRow}
 use Rattle.built_coefficients.specs.Built.{built_of, SmallWeights, StoredBy}
 
 abbrev pub own_weights : YuvStandardMatrix → Weights
@@ -53,13 +53,13 @@ smpte240_matched = (λ d r. refl, (omega arith, omega arith))
 
 -- b is the answer to whether there is a row
 module _ (d : ℕ) (r : YuvRange) (m : YuvStandardMatrix) (mode : YuvMode) {b : Bool} (e : b ≡ is_stored d m) where
-  pub none : not b ≡ true → NoRow ≡ built_of d r m mode
+  pub none : not b ≡ true → None ≡ built_of d r m mode
   unfolding built_of
   none n = rw (sym e ∙ not-true b n)
 
   pub known : not b ≡ false → T (among d depths)
   known n = stored_known d m (rw (sym e ∙ not-false b n) tt)
 
-  pub row : {k : CbCrInverseTransform} → not b ≡ false → k ≡ stored_of d r m mode → Row k ≡ built_of d r m mode
+  pub row : {k : CbCrInverseTransform} → not b ≡ false → k ≡ stored_of d r m mode → Some k ≡ built_of d r m mode
   unfolding built_of
-  row n q = rw (sym e ∙ not-false b n) (ap Row q)
+  row n q = rw (sym e ∙ not-false b n) (ap Some q)

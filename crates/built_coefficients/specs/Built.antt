@@ -1,23 +1,22 @@
 -- The row of a setting that the source stores one for, and what its formula asks of weights and ranges.
 -- Definitions only.
-use Rattle.std.specs.Prelude.{◌≡◌, cond, ℕ, ◌-◌, ◌*◌, ◌≤◌, ◌<◌, T}
+use Rattle.std.specs.Prelude.{◌≡◌, cond, ℕ, ◌-◌, ◌*◌, ◌≤◌, ◌<◌, T, Option, Some, None}
 use Rattle.yuv_support.specs.declared.YuvRange.{YuvRange}
 use Rattle.yuv_support.specs.declared.YuvStandardMatrix.{YuvStandardMatrix}
 use Rattle.yuv_support.specs.declared.YuvMode.{YuvMode}
+use Rattle.yuv_support.specs.declared.CbCrInverseTransform.{CbCrInverseTransform}
 use Rattle.yuv_support.specs.Coefficients.{is_stored, stored_of, rule_of, NearestExact}
 use Rattle.yuv_support.specs.Distance.{measured_at}
-use Rattle.built_coefficients.specs.declared.BuiltTransform.{BuiltTransform}
-use Rattle.built_coefficients.specs.declared.BuiltTransform.TheVariants.{Row, NoRow}
 use Rattle.built_coefficients.specs.declared.Weights.{Weights}
 
 -- the row where there is one
-unfoldable pub built_of : ℕ → YuvRange → YuvStandardMatrix → YuvMode → BuiltTransform
-built_of d r m mode = cond (is_stored d m) (Row (stored_of d r m mode)) NoRow
+unfoldable pub built_of : ℕ → YuvRange → YuvStandardMatrix → YuvMode → Option CbCrInverseTransform
+built_of d r m mode = cond (is_stored d m) (Some (stored_of d r m mode)) None
 
 -- what is promised of the row of a measured setting: each coefficient is the whole number nearest the exact one
-unfoldable pub NearestRow : ℕ → YuvRange → YuvStandardMatrix → YuvMode → BuiltTransform → Type 0
-NearestRow d r m mode (Row k) = T (measured_at d m mode) → NearestExact d r m k
-NearestRow d r m mode NoRow = Unit {0}
+unfoldable pub NearestRow : ℕ → YuvRange → YuvStandardMatrix → YuvMode → Option CbCrInverseTransform → Type 0
+NearestRow d r m mode (Some k) = T (measured_at d m mode) → NearestExact d r m k
+NearestRow d r m mode None = Unit {0}
 
 -- the rule for these weights gives the rows of a matrix in a mode
 abbrev pub StoredBy : YuvStandardMatrix → YuvMode → Weights → Type 0

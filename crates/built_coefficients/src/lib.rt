@@ -9,13 +9,6 @@ ghost use Rattle.built_coefficients.specs.Built.{built_of, NearestRow, SmallWeig
 
 use yuv_support::{CbCrInverseTransform, YuvMode, YuvRange, YuvStandardMatrix};
 
-// The row of a setting that the source stores one for, or that it stores none.
-#[derive(Clone, Copy)]
-pub enum BuiltTransform {
-    Row(CbCrInverseTransform),
-    NoRow,
-}
-
 // kr and kb, in ten-thousandths.
 #[derive(Clone, Copy)]
 struct Weights {
@@ -79,6 +72,7 @@ fn rule(depth: u32, range: YuvRange, k: Weights) -> CbCrInverseTransform
 }
 
 // The weights of a matrix. Custom, which has no stored row, carries its own elsewhere.
+#[tactic(auto, unfolding(yuv_support::specs::Settings::weight_r, yuv_support::specs::Settings::weight_b))]
 fn own_weights(matrix: YuvStandardMatrix) -> Weights
     ensures { result ≡ record { kr = weight_r matrix; kb = weight_b matrix } }
 {
@@ -108,33 +102,32 @@ fn stored_weights(matrix: YuvStandardMatrix, mode: YuvMode) -> Weights
 }
 
 // Whether the source stores a row: five matrices at depth 8, three at depths 10 and 12.
+#[tactic(auto, unfolding(yuv_support::specs::Coefficients::is_stored))]
 fn is_stored(depth: u32, matrix: YuvStandardMatrix) -> bool
     ensures { result ≡ is_stored depth matrix }
 {
     match matrix {
-        YuvStandardMatrix::Bt601 => yuv_support::is_depth(depth),
-        YuvStandardMatrix::Bt709 => yuv_support::is_depth(depth),
-        YuvStandardMatrix::Bt2020 => yuv_support::is_depth(depth),
-        YuvStandardMatrix::Smpte240 => depth == 8,
-        YuvStandardMatrix::Bt470_6 => depth == 8,
-        YuvStandardMatrix::Fcc => false,
-        YuvStandardMatrix::Custom(_, _) => false,
+        YuvStandardMatrix::Bt601 | YuvStandardMatrix::Bt709 | YuvStandardMatrix::Bt2020 => {
+            yuv_support::is_depth(depth)
+        }
+        YuvStandardMatrix::Smpte240 | YuvStandardMatrix::Bt470_6 => depth == 8,
+        YuvStandardMatrix::Fcc | YuvStandardMatrix::Custom(_, _) => false,
     }
 }
 
-// The row of a depth, a range, a matrix and a mode.
+// The row that the source stores of a depth, a range, a matrix and a mode, if it stores one.
 pub fn get_built_inverse_transform(
     depth: u32,
     range: YuvRange,
     matrix: YuvStandardMatrix,
     mode: YuvMode,
-) -> BuiltTransform
+) -> Option<CbCrInverseTransform>
     ensures built { result ≡ built_of depth range matrix mode }
     ensures nearest { NearestRow depth range matrix mode result }
 {
     if !is_stored(depth, matrix) {
-        return BuiltTransform::NoRow;
+        return None;
     }
     let k = stored_weights(matrix, mode);
-    BuiltTransform::Row(rule(depth, range, k))
+    Some(rule(depth, range, k))
 }

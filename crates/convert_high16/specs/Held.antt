@@ -1,67 +1,80 @@
--- Chroma rows held unpacked in a buffer that has room for two: row c stands in half c mod 2, so that of two neighbours each keeps its half.
--- The halves are as long as a row, one after the other from the buffer's begin on.
+-- Chroma rows held unpacked: of two neighbours the even one has one place, the odd one the other.
 -- Definitions only.
-use Rattle.std.specs.Prelude.{◌≡◌, List, map, ℕ, ◌-◌, ◌*◌, ◌/◌, ◌%◌, ◌^◌, ◌≤◌, ◌<◌, length, take, get_or}
+use Rattle.std.specs.Prelude.{◌≡◌, List, map, ℕ, ◌-◌, ◌*◌, ◌/◌, ◌%◌, ◌^◌, ◌≤◌, cond, eqb, length, take, Some}
 use Rattle.yuv_support.specs.declared.YuvSourceChannels.{YuvSourceChannels}
 use Rattle.yuv_support.specs.declared.YuvMode.{YuvMode}
 use Rattle.yuv_support.specs.declared.Clipped.{Clipped}
 use Rattle.yuv_support.specs.declared.Settings.{Settings}
-use Rattle.yuv_support.specs.Blend.{Frame, chroma_width, chroma_height}
+use Rattle.yuv_support.specs.Blend.{Frame, frame_of, chroma_width}
 use Rattle.yuv_support.specs.Picture.{channels_of}
 use Rattle.yuv_support.specs.Questions.{part_of}
 use Rattle.images.specs.declared.ChromaRows.{ChromaRows}
+use Rattle.images.specs.declared.picture.YuvPlanarImage.{YuvPlanarImage}
+use Rattle.images.specs.Lent.{geometry}
 use Rattle.numerics.specs.declared.Kernel.{Kernel}
 use Rattle.kernel.specs.Ordered.{ordered_value, ordered_clipped}
+use Rattle.convert_high16.specs.declared.HeldRow.{HeldRow}
+use Rattle.convert_high16.specs.declared.HeldRows.{HeldRows}
+use Rattle.convert_high16.specs.declared.Buffers.{Buffers}
+
+-- a lent picture as the definitions see it
+abbrev pub frame : YuvPlanarImage ℕ → Frame
+frame i = frame_of (geometry i) i.y_plane.now i.u_plane.now i.v_plane.now
 
 -- elements divided by 2^shift, rounding down
 abbrev pub divided_by : ℕ → List ℕ → List ℕ
 divided_by shift elements = map (λ x. x / 2 ^ shift) elements
 
--- what stands in the half of row c
-abbrev pub half_of : ℕ → List ℕ → ℕ → List ℕ
-half_of columns buffer c = part_of columns (c % 2) columns buffer
+-- the row of a plane that `held` names, if it names one, stands there unpacked
+abbrev pub Unpacked : {n : ℕ} → ℕ → ℕ → ℕ → List ℕ → HeldRow n → Type 0
+Unpacked shift columns stride plane held =
+    (c : ℕ) → held.number ≡ Some c → take columns held.samples ≡ divided_by shift (part_of stride c columns plane)
 
--- row c of a plane, unpacked, stands in its half
-abbrev pub InHalf : ℕ → ℕ → ℕ → List ℕ → List ℕ → ℕ → Type 0
-InHalf shift columns stride plane buffer c = half_of columns buffer c ≡ divided_by shift (part_of stride c columns plane)
+-- the place of row c
+abbrev pub place_of : {n : ℕ} → HeldRows n → ℕ → HeldRow n
+place_of held c = cond (eqb (c % 2) 0) held.even held.odd
 
--- `held` names the row in each half; of a plane's rows, those that it names stand there
-abbrev pub Held : ℕ → ℕ → ℕ → ℕ → List ℕ → List ℕ → List ℕ → Type 0
-Held shift rows columns stride plane buffer held =
-    (c : ℕ) → c < rows → get_or held (c % 2) 0 ≡ c → InHalf shift columns stride plane buffer c
+-- both places hold what they name
+pub record Held {n : ℕ} (shift columns stride : ℕ) (plane : List ℕ) (held : HeldRows n) : Type 0 where
+  pub even : Unpacked shift columns stride plane held.even
+  pub odd : Unpacked shift columns stride plane held.odd
+
+-- the chroma rows p of a luma row, of one plane, are held
+pub record BothHeld {n : ℕ} (shift : ℕ) (p : ChromaRows) (stride : ℕ) (plane : List ℕ) (held : HeldRows n) : Type 0 where
+  pub rows_held : Held shift p.columns stride plane held
+  pub near : (place_of held p.near).number ≡ Some p.near
+  pub other : (place_of held p.other).number ≡ Some p.other
+
+-- the rows held of U and of V are those of a picture
+pub record ChromaHeld {n : ℕ} (s : Settings) (f : Frame) (u v : HeldRows n) : Type 0 where
+  pub of_u : Held (16 - s.depth) (chroma_width f.width) f.u_stride f.u u
+  pub of_v : Held (16 - s.depth) (chroma_width f.width) f.v_stride f.v v
 
 -- ---- a luma row's samples in the buffers, p being its chroma rows
 
+-- the samples in the place of row c
+abbrev pub held_row : {n : ℕ} → ℕ → HeldRows n → ℕ → List ℕ
+held_row columns held c = take columns (place_of held c).samples
+
 -- element x of the row that they make
-abbrev pub held_value : Kernel → YuvSourceChannels → YuvMode → ℕ → List ℕ → List ℕ → List ℕ → ChromaRows → ℕ → ℕ
-held_value k order mode width luma us vs p x =
-    ordered_value k order mode width (take width luma)
-    (half_of p.columns us p.near) (half_of p.columns us p.other)
-    (half_of p.columns vs p.near) (half_of p.columns vs p.other) x
+abbrev pub held_value : {m n : ℕ} → Kernel → YuvSourceChannels → YuvMode → ℕ → Buffers m n → ChromaRows → ℕ → ℕ
+held_value k order mode width b p x =
+    ordered_value k order mode width (take width b.luma)
+    (held_row p.columns b.u p.near) (held_row p.columns b.u p.other)
+    (held_row p.columns b.v p.near) (held_row p.columns b.v p.other) x
 
 -- what is clipped in it
-abbrev pub held_clipped : Kernel → YuvSourceChannels → YuvMode → ℕ → List ℕ → List ℕ → List ℕ → ChromaRows → Clipped
-held_clipped k order mode width luma us vs p =
-    ordered_clipped k order mode width (take width luma)
-    (half_of p.columns us p.near) (half_of p.columns us p.other)
-    (half_of p.columns vs p.near) (half_of p.columns vs p.other)
+abbrev pub held_clipped : {m n : ℕ} → Kernel → YuvSourceChannels → YuvMode → ℕ → Buffers m n → ChromaRows → Clipped
+held_clipped k order mode width b p =
+    ordered_clipped k order mode width (take width b.luma)
+    (held_row p.columns b.u p.near) (held_row p.columns b.u p.other)
+    (held_row p.columns b.v p.near) (held_row p.columns b.v p.other)
 
--- they are long enough for it
-pub record HeldFits (order : YuvSourceChannels) (row luma us vs : List ℕ) (p : ChromaRows) (width : ℕ) : Type 0 where
+-- buffers of these lengths are long enough for it
+pub record HeldFits (order : YuvSourceChannels) (row : List ℕ) (p : ChromaRows) (width luma chroma : ℕ) : Type 0 where
   pub some : 1 ≤ width
   pub wide : width ≤ 16384
   pub places : length row ≡ width * channels_of order
-  pub luma_room : width ≤ length luma
-  pub u_room : 2 * p.columns ≤ length us
-  pub v_room : 2 * p.columns ≤ length vs
+  pub luma_room : width ≤ luma
+  pub chroma_room : p.columns ≤ chroma
   pub columns_are : p.columns ≡ chroma_width width
-
--- what the rows of a picture find and leave in the buffers: room for a luma row, and chroma rows held
-pub record Buffers (s : Settings) (f : Frame) (luma us vs u_held v_held : List ℕ) : Type 0 where
-  pub luma_room : f.width ≤ length luma
-  pub u_room : 2 * chroma_width f.width ≤ length us
-  pub v_room : 2 * chroma_width f.width ≤ length vs
-  pub u_names : length u_held ≡ 2
-  pub v_names : length v_held ≡ 2
-  pub u : Held (16 - s.depth) (chroma_height s.sampling f.height) (chroma_width f.width) f.u_stride f.u us u_held
-  pub v : Held (16 - s.depth) (chroma_height s.sampling f.height) (chroma_width f.width) f.v_stride f.v vs v_held

@@ -1,5 +1,6 @@
 // The exported C functions: the public entries, by C names, for hosts that link the static library (include/dethrowg.h).
 // Each hands on to one entry and promises what that entry promises. Nothing is asked of the caller beyond what the header says of pointers.
+// One export for each width: C has no generics, and a macro may not write exports.
 #![tactic(auto)]
 
 ghost use Rattle.std.specs.Prelude.{◌≡◌, length};
@@ -10,18 +11,21 @@ ghost use Rattle.yuv_support.specs.Conversion.{answer_to, clipped_after, destina
 ghost use Rattle.yuv_error.specs.Told.{as_report, as_band_report};
 ghost use Rattle.settings_used.specs.Used.{settings_used_of};
 ghost use Rattle.row_readers.specs.Readers.{extent_of, row_place, chroma_row_place};
-ghost use Rattle.y4m_planes.specs.declared.Element.TheVariants.{Byte, Word};
 ghost use Rattle.y4m_frames.specs.Questions.{lengths_of, strides};
 ghost use Rattle.y4m.specs.Reading.{header_told, frame_told, y_after, u_after, v_after};
 ghost use Rattle.y4m.specs.Writing.{header_written, after_header, frame_written, after_frame};
-ghost use Rattle.weave_planes.specs.Woven.{lent};
+ghost use Rattle.planes.specs.Woven.{lent};
 ghost use Rattle.weave.specs.Weaving.{weave_answer, after_weaving, u_after_unweaving, v_after_unweaving};
 
+use images::YuvPlanarImage;
 use row_readers::Part;
+use sample::plane::{Plane, PlaneMut, Size};
 use settings_used::SettingsUsed;
 use y4m::{Written, Y4mFrame};
+use yuv_error::report::{answer_alone, band_report_of, report_of};
 use yuv_error::{BandReport, Report};
-use yuv_support::{Codes, YuvPlanarImage};
+use yuv_support::{Codes, Geometry};
+use yuv_to_rgba_bilinear::{yuv_to_rgbx_band, yuv_to_rgbx_bilinear};
 
 // The settings used at any codes and weights.
 #[unsafe(no_mangle)]
@@ -35,7 +39,7 @@ pub extern "C" fn dethrowg_coefficients(codes: Codes) -> SettingsUsed
 #[unsafe(no_mangle)]
 pub extern "C" fn dethrowg_yuv8_to_rgb(
     codes: Codes,
-    image: YuvPlanarImage,
+    image: Geometry,
     y: &[u8],
     u: &[u8],
     v: &[u8],
@@ -46,16 +50,15 @@ pub extern "C" fn dethrowg_yuv8_to_rgb(
     ensures destination { rgb.new ≡ destination_after depths8 codes image y.now u.now v.now rgb_stride rgb.old }
     ensures faithful { Demand3After AnySamples depths8 codes image y.now u.now v.now rgb_stride rgb.old rgb.new }
 {
-    yuv_error::report_of(yuv_to_rgba_bilinear::yuv_to_rgbx_bilinear(
-        codes, image, y, u, v, rgb, rgb_stride,
-    ))
+    let picture = YuvPlanarImage::with_planes(image, y, u, v);
+    report_of(yuv_to_rgbx_bilinear::<u8>(&picture, codes, rgb, rgb_stride))
 }
 
 // A conversion of u16 planes of 10 or 12 bits.
 #[unsafe(no_mangle)]
 pub extern "C" fn dethrowg_yuv16_to_rgb(
     codes: Codes,
-    image: YuvPlanarImage,
+    image: Geometry,
     y: &[u16],
     u: &[u16],
     v: &[u16],
@@ -66,16 +69,15 @@ pub extern "C" fn dethrowg_yuv16_to_rgb(
     ensures destination { rgb.new ≡ destination_after depths16 codes image y.now u.now v.now rgb_stride rgb.old }
     ensures faithful { Demand3After WithinIfLow depths16 codes image y.now u.now v.now rgb_stride rgb.old rgb.new }
 {
-    yuv_error::report_of(yuv_p16_to_rgba16_bilinear::yuv16_to_rgbx_bilinear(
-        codes, image, y, u, v, rgb, rgb_stride,
-    ))
+    let picture = YuvPlanarImage::with_planes(image, y, u, v);
+    report_of(yuv_to_rgbx_bilinear::<u16>(&picture, codes, rgb, rgb_stride))
 }
 
 // A band of rows of byte planes.
 #[unsafe(no_mangle)]
 pub extern "C" fn dethrowg_yuv8_to_rgb_band(
     codes: Codes,
-    image: YuvPlanarImage,
+    image: Geometry,
     y: &[u8],
     u: &[u8],
     v: &[u8],
@@ -88,16 +90,16 @@ pub extern "C" fn dethrowg_yuv8_to_rgb_band(
     ensures destination { rgb.new ≡ destination_after_band depths8 codes image y.now u.now v.now rgb_stride rgb.old first limit }
     ensures faithful { Demand3AfterBand AnySamples depths8 codes image y.now u.now v.now rgb_stride rgb.old first limit rgb.new }
 {
-    yuv_error::band_report_of(yuv_to_rgba_bilinear::yuv_to_rgbx_band(
-        codes, image, y, u, v, rgb, rgb_stride, first, limit,
-    ))
+    let picture = YuvPlanarImage::with_planes(image, y, u, v);
+    let band = yuv_to_rgbx_band::<u8>(&picture, codes, rgb, rgb_stride, first, limit);
+    band_report_of(band, first)
 }
 
 // A band of rows of u16 planes of 10 or 12 bits.
 #[unsafe(no_mangle)]
 pub extern "C" fn dethrowg_yuv16_to_rgb_band(
     codes: Codes,
-    image: YuvPlanarImage,
+    image: Geometry,
     y: &[u16],
     u: &[u16],
     v: &[u16],
@@ -110,9 +112,9 @@ pub extern "C" fn dethrowg_yuv16_to_rgb_band(
     ensures destination { rgb.new ≡ destination_after_band depths16 codes image y.now u.now v.now rgb_stride rgb.old first limit }
     ensures faithful { Demand3AfterBand WithinIfLow depths16 codes image y.now u.now v.now rgb_stride rgb.old first limit rgb.new }
 {
-    yuv_error::band_report_of(yuv_p16_to_rgba16_bilinear::yuv16_to_rgbx_band(
-        codes, image, y, u, v, rgb, rgb_stride, first, limit,
-    ))
+    let picture = YuvPlanarImage::with_planes(image, y, u, v);
+    let band = yuv_to_rgbx_band::<u16>(&picture, codes, rgb, rgb_stride, first, limit);
+    band_report_of(band, first)
 }
 
 // Where the finished row stands in a destination of u8 elements.
@@ -127,7 +129,11 @@ pub extern "C" fn dethrowg_row8(
 ) -> Part
     ensures { result ≡ row_place order width height (extent_of rgb.now rgb_stride) row }
 {
-    row_readers::finished_row_part8(order, width, height, rgb, rgb_stride, row)
+    let rgb = Plane {
+        elements: rgb,
+        stride: rgb_stride,
+    };
+    row_readers::finished_row_part::<u8>(order, Size { width, height }, rgb, row)
 }
 
 // Where a luma row's near chroma row stands in the U plane or the V plane, of u8 elements.
@@ -145,9 +151,15 @@ pub extern "C" fn dethrowg_chroma_row8(
 ) -> Part
     ensures { result ≡ chroma_row_place sampling plane width height (extent_of u.now u_stride) (extent_of v.now v_stride) row }
 {
-    row_readers::near_chroma_row_part8(
-        sampling, plane, width, height, u, u_stride, v, v_stride, row,
-    )
+    let u = Plane {
+        elements: u,
+        stride: u_stride,
+    };
+    let v = Plane {
+        elements: v,
+        stride: v_stride,
+    };
+    row_readers::near_chroma_row_part::<u8>(sampling, plane, Size { width, height }, u, v, row)
 }
 
 // Where the finished row stands in a destination of u16 elements.
@@ -162,7 +174,11 @@ pub extern "C" fn dethrowg_row16(
 ) -> Part
     ensures { result ≡ row_place order width height (extent_of rgb.now rgb_stride) row }
 {
-    row_readers::finished_row_part16(order, width, height, rgb, rgb_stride, row)
+    let rgb = Plane {
+        elements: rgb,
+        stride: rgb_stride,
+    };
+    row_readers::finished_row_part::<u16>(order, Size { width, height }, rgb, row)
 }
 
 // Where a luma row's near chroma row stands in the U plane or the V plane, of u16 elements.
@@ -180,9 +196,15 @@ pub extern "C" fn dethrowg_chroma_row16(
 ) -> Part
     ensures { result ≡ chroma_row_place sampling plane width height (extent_of u.now u_stride) (extent_of v.now v_stride) row }
 {
-    row_readers::near_chroma_row_part16(
-        sampling, plane, width, height, u, u_stride, v, v_stride, row,
-    )
+    let u = Plane {
+        elements: u,
+        stride: u_stride,
+    };
+    let v = Plane {
+        elements: v,
+        stride: v_stride,
+    };
+    row_readers::near_chroma_row_part::<u16>(sampling, plane, Size { width, height }, u, v, row)
 }
 
 // The header of a YUV4MPEG2 stream.
@@ -205,12 +227,24 @@ pub extern "C" fn dethrowg_y4m_read8(
     v: &mut [u8],
     v_stride: u32,
 ) -> Y4mFrame
-    ensures answer { result ≡ frame_told Byte stream.now place (strides y_stride u_stride v_stride) (lengths_of y.old u.old v.old) }
-    ensures y_plane { y.new ≡ y_after Byte stream.now place (strides y_stride u_stride v_stride) (lengths_of y.old u.old v.old) y.old }
-    ensures u_plane { u.new ≡ u_after Byte stream.now place (strides y_stride u_stride v_stride) (lengths_of y.old u.old v.old) u.old }
-    ensures v_plane { v.new ≡ v_after Byte stream.now place (strides y_stride u_stride v_stride) (lengths_of y.old u.old v.old) v.old }
+    ensures answer { result ≡ frame_told 1 stream.now place (strides y_stride u_stride v_stride) (lengths_of y.old u.old v.old) }
+    ensures y_plane { y.new ≡ y_after 1 stream.now place (strides y_stride u_stride v_stride) (lengths_of y.old u.old v.old) y.old }
+    ensures u_plane { u.new ≡ u_after 1 stream.now place (strides y_stride u_stride v_stride) (lengths_of y.old u.old v.old) u.old }
+    ensures v_plane { v.new ≡ v_after 1 stream.now place (strides y_stride u_stride v_stride) (lengths_of y.old u.old v.old) v.old }
 {
-    y4m::read8(stream, place, y, y_stride, u, u_stride, v, v_stride)
+    let y = PlaneMut {
+        elements: y,
+        stride: y_stride,
+    };
+    let u = PlaneMut {
+        elements: u,
+        stride: u_stride,
+    };
+    let v = PlaneMut {
+        elements: v,
+        stride: v_stride,
+    };
+    y4m::read::<u8>(stream, place, y, u, v)
 }
 
 // The frame at a place of a stream, into u16 planes.
@@ -225,12 +259,24 @@ pub extern "C" fn dethrowg_y4m_read16(
     v: &mut [u16],
     v_stride: u32,
 ) -> Y4mFrame
-    ensures answer { result ≡ frame_told Word stream.now place (strides y_stride u_stride v_stride) (lengths_of y.old u.old v.old) }
-    ensures y_plane { y.new ≡ y_after Word stream.now place (strides y_stride u_stride v_stride) (lengths_of y.old u.old v.old) y.old }
-    ensures u_plane { u.new ≡ u_after Word stream.now place (strides y_stride u_stride v_stride) (lengths_of y.old u.old v.old) u.old }
-    ensures v_plane { v.new ≡ v_after Word stream.now place (strides y_stride u_stride v_stride) (lengths_of y.old u.old v.old) v.old }
+    ensures answer { result ≡ frame_told 2 stream.now place (strides y_stride u_stride v_stride) (lengths_of y.old u.old v.old) }
+    ensures y_plane { y.new ≡ y_after 2 stream.now place (strides y_stride u_stride v_stride) (lengths_of y.old u.old v.old) y.old }
+    ensures u_plane { u.new ≡ u_after 2 stream.now place (strides y_stride u_stride v_stride) (lengths_of y.old u.old v.old) u.old }
+    ensures v_plane { v.new ≡ v_after 2 stream.now place (strides y_stride u_stride v_stride) (lengths_of y.old u.old v.old) v.old }
 {
-    y4m::read16(stream, place, y, y_stride, u, u_stride, v, v_stride)
+    let y = PlaneMut {
+        elements: y,
+        stride: y_stride,
+    };
+    let u = PlaneMut {
+        elements: u,
+        stride: u_stride,
+    };
+    let v = PlaneMut {
+        elements: v,
+        stride: v_stride,
+    };
+    y4m::read::<u16>(stream, place, y, u, v)
 }
 
 // The header of a stream, written.
@@ -253,16 +299,17 @@ pub extern "C" fn dethrowg_y4m_write_header(
 pub extern "C" fn dethrowg_y4m_write_frame8(
     sampling: u32,
     depth: u32,
-    image: YuvPlanarImage,
+    image: Geometry,
     y: &[u8],
     u: &[u8],
     v: &[u8],
     out: &mut [u8],
 ) -> Written
-    ensures answer { result ≡ frame_written Byte sampling depth image (lengths_of y.now u.now v.now) (length out.old) }
-    ensures output { out.new ≡ after_frame Byte sampling depth image (lengths_of y.now u.now v.now) y.now u.now v.now out.old }
+    ensures answer { result ≡ frame_written 1 sampling depth image (lengths_of y.now u.now v.now) (length out.old) }
+    ensures output { out.new ≡ after_frame 1 sampling depth image (lengths_of y.now u.now v.now) y.now u.now v.now out.old }
 {
-    y4m::write_frame8(sampling, depth, image, y, u, v, out)
+    let image = YuvPlanarImage::with_planes(image, y, u, v);
+    y4m::write_frame::<u8>(sampling, depth, &image, out)
 }
 
 // A frame of u16 planes, written.
@@ -270,16 +317,17 @@ pub extern "C" fn dethrowg_y4m_write_frame8(
 pub extern "C" fn dethrowg_y4m_write_frame16(
     sampling: u32,
     depth: u32,
-    image: YuvPlanarImage,
+    image: Geometry,
     y: &[u16],
     u: &[u16],
     v: &[u16],
     out: &mut [u8],
 ) -> Written
-    ensures answer { result ≡ frame_written Word sampling depth image (lengths_of y.now u.now v.now) (length out.old) }
-    ensures output { out.new ≡ after_frame Word sampling depth image (lengths_of y.now u.now v.now) y.now u.now v.now out.old }
+    ensures answer { result ≡ frame_written 2 sampling depth image (lengths_of y.now u.now v.now) (length out.old) }
+    ensures output { out.new ≡ after_frame 2 sampling depth image (lengths_of y.now u.now v.now) y.now u.now v.now out.old }
 {
-    y4m::write_frame16(sampling, depth, image, y, u, v, out)
+    let image = YuvPlanarImage::with_planes(image, y, u, v);
+    y4m::write_frame::<u16>(sampling, depth, &image, out)
 }
 
 // U and V of bytes, woven into one plane.
@@ -297,8 +345,19 @@ pub extern "C" fn dethrowg_weave8(
     ensures answer { result ≡ as_report (weave_answer width height (lent u.now u_stride) (lent v.now v_stride) (lent uv.old uv_stride)) unclipped }
     ensures woven { uv.new ≡ after_weaving width height (lent u.now u_stride) (lent v.now v_stride) (lent uv.old uv_stride) }
 {
-    let answer = weave::weave8(width, height, u, u_stride, v, v_stride, uv, uv_stride);
-    yuv_error::answer_alone(answer)
+    let u = Plane {
+        elements: u,
+        stride: u_stride,
+    };
+    let v = Plane {
+        elements: v,
+        stride: v_stride,
+    };
+    let uv = PlaneMut {
+        elements: uv,
+        stride: uv_stride,
+    };
+    answer_alone(weave::weave::<u8>(uv, u, v, Size { width, height }))
 }
 
 // A woven plane of bytes, taken apart into U and V.
@@ -317,8 +376,19 @@ pub extern "C" fn dethrowg_unweave8(
     ensures u_plane { u.new ≡ u_after_unweaving width height (lent u.old u_stride) (lent v.old v_stride) (lent uv.now uv_stride) }
     ensures v_plane { v.new ≡ v_after_unweaving width height (lent u.old u_stride) (lent v.old v_stride) (lent uv.now uv_stride) }
 {
-    let answer = weave::unweave8(width, height, uv, uv_stride, u, u_stride, v, v_stride);
-    yuv_error::answer_alone(answer)
+    let uv = Plane {
+        elements: uv,
+        stride: uv_stride,
+    };
+    let u = PlaneMut {
+        elements: u,
+        stride: u_stride,
+    };
+    let v = PlaneMut {
+        elements: v,
+        stride: v_stride,
+    };
+    answer_alone(weave::unweave::<u8>(uv, u, v, Size { width, height }))
 }
 
 // U and V of u16, woven into one plane.
@@ -336,8 +406,19 @@ pub extern "C" fn dethrowg_weave16(
     ensures answer { result ≡ as_report (weave_answer width height (lent u.now u_stride) (lent v.now v_stride) (lent uv.old uv_stride)) unclipped }
     ensures woven { uv.new ≡ after_weaving width height (lent u.now u_stride) (lent v.now v_stride) (lent uv.old uv_stride) }
 {
-    let answer = weave::weave16(width, height, u, u_stride, v, v_stride, uv, uv_stride);
-    yuv_error::answer_alone(answer)
+    let u = Plane {
+        elements: u,
+        stride: u_stride,
+    };
+    let v = Plane {
+        elements: v,
+        stride: v_stride,
+    };
+    let uv = PlaneMut {
+        elements: uv,
+        stride: uv_stride,
+    };
+    answer_alone(weave::weave::<u16>(uv, u, v, Size { width, height }))
 }
 
 // A woven plane of u16, taken apart into U and V.
@@ -356,6 +437,17 @@ pub extern "C" fn dethrowg_unweave16(
     ensures u_plane { u.new ≡ u_after_unweaving width height (lent u.old u_stride) (lent v.old v_stride) (lent uv.now uv_stride) }
     ensures v_plane { v.new ≡ v_after_unweaving width height (lent u.old u_stride) (lent v.old v_stride) (lent uv.now uv_stride) }
 {
-    let answer = weave::unweave16(width, height, uv, uv_stride, u, u_stride, v, v_stride);
-    yuv_error::answer_alone(answer)
+    let uv = Plane {
+        elements: uv,
+        stride: uv_stride,
+    };
+    let u = PlaneMut {
+        elements: u,
+        stride: u_stride,
+    };
+    let v = PlaneMut {
+        elements: v,
+        stride: v_stride,
+    };
+    answer_alone(weave::unweave::<u16>(uv, u, v, Size { width, height }))
 }

@@ -1,3 +1,4 @@
 pub mod Rows
 pub mod Held
+pub mod Told
 pub mod Painting

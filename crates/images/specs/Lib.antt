@@ -1,2 +1,4 @@
 pub mod Rows
 pub mod Request
+pub mod Plane
+pub mod Lent

@@ -92,6 +92,13 @@ middle k t h b =
     within : (n : ℕ) → n ≤ 16777215 * 2147483648 → capped (nearest n 16777216) ≡ (n * 2 + 16777216) / 33554432
     within n l = omega arith
 
+-- the shifted digits fit 64 bits
+pub whole : (k t : ℕ) → k < 32 → t < 8388608
+    → ((8388608 + t) * 2 ^ k * 2 + 16777216) / 33554432 ≡ ((8388608 + t) * 2 ^ k % 18446744073709551616 * 2 + 16777216) / 33554432
+whole k t h b =
+    ap (λ (n : ℕ). (n * 2 + 16777216) / 33554432)
+    (sym (mod-eq_of_lt (let l : (8388608 + t) * 2 ^ k < 18446744073709551616 = omega (arith, middle_fits k t h b) in l)))
+
 -- which fields are a NaN's
 abbrev pub nan_fields : ℕ → ℕ → Bool
 nan_fields x t = eqb x 255 && not (eqb t 0)

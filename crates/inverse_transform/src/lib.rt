@@ -7,7 +7,6 @@ ghost use Rattle.std.specs.Float.Ieee.{of_bits, nan_bits};
 ghost use Rattle.yuv_support.specs.Settings.{weights_of, among, depths};
 ghost use Rattle.yuv_support.specs.Coefficients.{green_weight, inverse_transform, round_away, integer, to_integers, computed_of, coefficients_of, is_weight, custom_usable, usable_with};
 
-use built_coefficients::BuiltTransform;
 use yuv_support::{
     CbCrInverseTransform, InverseTransformF32, Settings, YuvBias, YuvRange, YuvStandardMatrix,
 };
@@ -43,6 +42,7 @@ pub fn get_kr_kb(matrix: YuvStandardMatrix) -> YuvBias
 }
 
 // (1 − kr) − kb
+#[tactic(auto, unfolding(yuv_support::specs::Coefficients::green_weight), using(crate::proofs::Constants::one_is))]
 fn green_weight(k: YuvBias) -> f32
     ensures { result ≡ green_weight k }
 {
@@ -50,6 +50,7 @@ fn green_weight(k: YuvBias) -> f32
 }
 
 // The f32 coefficients from M, RY, RC and the weights. A division by 0 gives an infinity or a NaN, as in f32.
+#[tactic(auto, unfolding(yuv_support::specs::Coefficients::ratio, yuv_support::specs::Coefficients::outer, yuv_support::specs::Coefficients::inner), using(crate::proofs::Constants::one_is, crate::proofs::Constants::two_is))]
 pub fn get_inverse_transform(
     range_bgra: u16,
     range_y: u16,
@@ -71,15 +72,7 @@ pub fn get_inverse_transform(
     }
 }
 
-// 2 to the k.
-fn power(k: u32) -> u64
-    requires { k < 32 }
-    ensures { result ≡ 2 ^ k }
-{
-    1u64 << k
-}
-
-// The rounding of the f32 whose bits these are, and which is no NaN. Below a half it is 0, from 2^31 on 2^31 − 1.
+// Worked out from the bits, as document 01 has it: the rounding of the f32 whose bits these are, and which is no NaN. Below a half it is 0, from 2^31 on 2^31 − 1.
 fn round_bits(bits: u32) -> u32
     requires { T (not (nan_bits binary32 bits)) }
     ensures { result ≡ round_away (of_bits binary32 bits) }
@@ -95,7 +88,7 @@ fn round_bits(bits: u32) -> u32
         return 2147483647;
     }
     let digits = (8388608 + bits % 8388608) as u64;
-    let scaled = digits * power(exponent - 126);
+    let scaled = digits << (exponent - 126);
     ((scaled * 2 + 16777216) / 33554432) as u32
 }
 
@@ -110,6 +103,7 @@ pub fn round_to_u32(x: f32) -> u32
 }
 
 // Times 8192, rounded.
+#[tactic(auto, unfolding(yuv_support::specs::Coefficients::integer), using(crate::proofs::Constants::scale_is))]
 fn to_integer(x: f32) -> u32
     ensures { result ≡ integer x }
 {
@@ -144,49 +138,44 @@ pub fn search_inverse_transform(s: Settings) -> CbCrInverseTransform
     requires { T (among s.depth depths) }
     ensures { result ≡ coefficients_of s }
 {
-    let range = s.range;
-    let matrix = s.matrix;
     let mode = s.mode;
-    match built_coefficients::get_built_inverse_transform(s.depth, range, matrix, mode) {
-        BuiltTransform::Row(row) => row,
-        BuiltTransform::NoRow => computed(s.depth, range, matrix),
+    match built_coefficients::get_built_inverse_transform(s.depth, s.range, s.matrix, mode) {
+        Some(row) => row,
+        None => computed(s.depth, s.range, s.matrix),
     }
 }
 
 // From 0 to 1, ends included; a NaN is no weight.
+#[tactic(auto, using(crate::proofs::Constants::zero_is, crate::proofs::Constants::one_is))]
 fn is_weight(k: f32) -> bool
     ensures { result ≡ is_weight k }
 {
-    if 0.0 <= k {
-        return k <= 1.0;
-    }
-    false
+    0.0 <= k && k <= 1.0
 }
 
 // Question 13 for Custom's weights. The sum is judged in u64.
+#[tactic(auto, unfolding(yuv_support::specs::Coefficients::custom_usable), using(crate::proofs::Constants::zero_is))]
 fn is_custom_usable(k: YuvBias, t: CbCrInverseTransform) -> bool
     ensures { result ≡ custom_usable k t }
 {
-    let kr = k.kr;
-    let kb = k.kb;
-    if !is_weight(kr) {
-        return false;
-    }
-    if !is_weight(kb) {
-        return false;
-    }
-    if !(0.0 < green_weight(k)) {
-        return false;
-    }
-    t.g1 as u64 + t.g2 as u64 <= 32767
+    is_weight(k.kr)
+        && is_weight(k.kb)
+        && 0.0 < green_weight(k)
+        && t.g1 as u64 + t.g2 as u64 <= 32767
 }
 
 // Question 13, of a matrix and its coefficients in some setting. Always "yes" for a matrix by name.
+#[tactic(auto, unfolding(yuv_support::specs::Coefficients::usable_with))]
 pub fn is_usable(matrix: YuvStandardMatrix, t: CbCrInverseTransform) -> bool
     ensures { result ≡ usable_with matrix t }
 {
     match matrix {
         YuvStandardMatrix::Custom(kr, kb) => is_custom_usable(YuvBias { kr, kb }, t),
-        _ => true,
+        YuvStandardMatrix::Bt601
+        | YuvStandardMatrix::Bt709
+        | YuvStandardMatrix::Bt2020
+        | YuvStandardMatrix::Smpte240
+        | YuvStandardMatrix::Bt470_6
+        | YuvStandardMatrix::Fcc => true,
     }
 }

@@ -10,7 +10,7 @@ use lib.Dec.{T, eqb}
 use Rattle.yuv_support.specs.declared.Codes.{Codes}
 use Rattle.yuv_support.specs.declared.Clipped.{Clipped}
 use Rattle.yuv_support.specs.declared.Settings.{Settings}
-use Rattle.yuv_support.specs.declared.YuvPlanarImage.{YuvPlanarImage}
+use Rattle.yuv_support.specs.declared.Geometry.{Geometry}
 use Rattle.yuv_support.specs.Settings.{among, depths}
 use Rattle.yuv_support.specs.Blend.{Frame, frame_of}
 use Rattle.yuv_support.specs.Picture.{band, band_rows}
@@ -23,7 +23,7 @@ use Rattle.yuv_support.proofs.Bands.{rowed, all_rows, whole_as_band, refused_kee
 use Rattle.kernel.specs.Kernels.{kernel_of}
 use Rattle.kernel.specs.Ordered.{Ready}
 
-pub accepted_ready : (known : List ℕ) (within : (d : ℕ) → T (among d known) → T (among d depths)) (codes : Codes) (image : YuvPlanarImage)
+pub accepted_ready : (known : List ℕ) (within : (d : ℕ) → T (among d known) → T (among d depths)) (codes : Codes) (image : Geometry)
     (y u v : List ℕ) (stride : ℕ) (rgb : List ℕ) → (answer_to known codes image y u v stride rgb).number ≡ 0
     → Ready (decoded codes) (frame_of image y u v) (kernel_of (decoded codes))
 accepted_ready known within codes image y u v stride rgb e =
@@ -42,7 +42,7 @@ accepted_ready known within codes image y u v stride rgb e =
 
 -- ---- the promises of an entry, from its answer a and what it left in the destination
 
-module _ (known : List ℕ) (within : (d : ℕ) → T (among d known) → T (among d depths)) (codes : Codes) (image : YuvPlanarImage)
+module _ (known : List ℕ) (within : (d : ℕ) → T (among d known) → T (among d depths)) (codes : Codes) (image : Geometry)
     (y u v : List ℕ) (stride : ℕ) (rgb : List ℕ) (first : ℕ) (a : Verdict) (e : a ≡ answer_to_band known codes image y u v stride rgb first) where
   -- an accepted band is one of an accepted picture, at a first row
   pub band_of_accepted : eqb a.number 0 ≡ true → ((answer_to known codes image y u v stride rgb).number ≡ 0) × FirstRow first image.height
@@ -76,7 +76,7 @@ module _ (known : List ℕ) (within : (d : ℕ) → T (among d known) → T (amo
         (rw (k.clipped, k.rows, e, add-zero first), (sym k.destination, λ z. absurd (refused z)))
 
 -- demand 3 of the whole picture, from that of the band from row 0 with the height as limit
-pub whole_demand3 : (known : List ℕ) (codes : Codes) (image : YuvPlanarImage) (y u v : List ℕ) (stride : ℕ) (rgb : List ℕ)
+pub whole_demand3 : (known : List ℕ) (codes : Codes) (image : Geometry) (y u v : List ℕ) (stride : ℕ) (rgb : List ℕ)
     (Asked : Settings → Frame → Type 0) (out : List ℕ)
     → Demand3AfterBand Asked known codes image y u v stride rgb 0 image.height out → Demand3After Asked known codes image y u v stride rgb out
 whole_demand3 known codes image y u v stride rgb Asked out d e =

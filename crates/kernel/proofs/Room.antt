@@ -5,8 +5,9 @@ use Prim.Native.Nat.{ℕ, ◌+◌, ◌-◌, ◌*◌, ◌/◌, ◌≤◌}
 use native.Mathlib.Omega.{arith}
 use lib.Dec.{T}
 use Rattle.yuv_support.specs.declared.YuvRange.{YuvRange}
+use Rattle.yuv_support.specs.declared.YuvChromaRange.{YuvChromaRange}
 use Rattle.yuv_support.specs.declared.YuvRange.TheVariants.{Limited, Full}
-use Rattle.yuv_support.specs.Settings.{among, depths, depths16, max_of, bias_y, bias_c}
+use Rattle.yuv_support.specs.Settings.{among, depths, depths16, max_of, bias_y, bias_c, chroma_range_of}
 use Rattle.yuv_support.proofs.Depths.{each_among, by_depth}
 use Rattle.inverse_transform.specs.Narrow.{Narrow}
 use Rattle.numerics.specs.declared.Kernel.{Kernel}
@@ -65,6 +66,11 @@ module _ (ky kp gp gq kq : ℕ) (n : Narrow (record { y = ky; cr = kp; cb = kq; 
       (record { top = omega arith; first = omega arith; third = omega arith; green_bias = omega arith; green = omega arith })
       (record { top = omega arith; first = omega arith; third = omega arith; green_bias = omega arith; green = omega arith })
       d t
+
+  -- with what the code finds for the biases and the offset
+  pub room_found : {found : YuvChromaRange} {offset : ℕ} (d : ℕ) (r : YuvRange) → T (among d depths) → found ≡ chroma_range_of d r → offset ≡ offset_of d
+      → Room found.bias_y found.bias_uv offset (most_of d) ky kp gp gq kq
+  room_found d r t e f = rw (e, f) (room d r t)
 
   abbrev HighAt : YuvRange → ℕ → Type 0
   HighAt r d = High (lettered d r ky kp gp gq kq)

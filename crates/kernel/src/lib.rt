@@ -10,40 +10,19 @@ ghost use Rattle.kernel.specs.Kernels.{red_first, offset_of, lettered, arranged,
 use numerics::Kernel;
 use yuv_support::{CbCrInverseTransform, Settings, YuvRange, YuvSourceChannels};
 
-// Whether red is the first letter.
-pub fn is_red_first(order: YuvSourceChannels) -> bool
-    ensures { result ≡ red_first order }
-{
-    match order {
-        YuvSourceChannels::Rgb => true,
-        YuvSourceChannels::Rgba => true,
-        YuvSourceChannels::Bgra => false,
-        YuvSourceChannels::Bgr => false,
-    }
-}
-
+// How far a sum is kept above its value, over 8,192.
+#[tactic(auto, unfolding(crate::specs::Kernels::offset_of))]
 fn offset_of(depth: u32) -> u32
     ensures { result ≡ offset_of depth }
 {
-    if depth == 8 {
-        return 32511;
-    }
-    262144
+    if depth == 8 { 32511 } else { 262144 }
 }
 
-// The kernel whose first letter has the coefficients kp and gp, and whose third has kq and gq.
-fn lettered_kernel(
-    depth: u32,
-    range: YuvRange,
-    ky: u32,
-    kp: u32,
-    gp: u32,
-    gq: u32,
-    kq: u32,
-) -> Kernel
+// The kernel whose first letter has the coefficients cr and g1, and whose third has cb and g2.
+fn lettered_kernel(depth: u32, range: YuvRange, t: CbCrInverseTransform) -> Kernel
     requires known_depth { T (among depth depths) }
-    requires narrow { Narrow (record { y = ky; cr = kp; cb = kq; g1 = gp; g2 = gq }) }
-    ensures { result ≡ lettered depth range ky kp gp gq kq }
+    requires narrow { Narrow t }
+    ensures { result ≡ lettered depth range t.y t.cr t.g1 t.g2 t.cb }
 {
     let chroma = yuv_support::get_yuv_range(depth, range);
     let by = chroma.bias_y as u32;
@@ -53,28 +32,49 @@ fn lettered_kernel(
     Kernel {
         offset,
         max: yuv_support::max_of(depth),
-        y: ky as u16,
-        first: kp as u16,
-        green_first: gp as u16,
-        green_third: gq as u16,
-        third: kq as u16,
-        base_first: zero - (ky * by + kp * bc),
-        base_green: zero + (gp + gq) * bc - ky * by,
-        base_third: zero - (ky * by + kq * bc),
+        y: t.y as u16,
+        first: t.cr as u16,
+        green_first: t.g1 as u16,
+        green_third: t.g2 as u16,
+        third: t.cb as u16,
+        base_first: zero - (t.y * by + t.cr * bc),
+        base_green: zero + (t.g1 + t.g2) * bc - t.y * by,
+        base_third: zero - (t.y * by + t.cb * bc),
         half: 8,
     }
 }
 
-// The kernel of coefficients t at a depth and a range, red or blue first.
-pub fn kernel_of(depth: u32, range: YuvRange, red_first: bool, t: CbCrInverseTransform) -> Kernel
+// The coefficients with those of red and of blue exchanged.
+fn exchanged(t: CbCrInverseTransform) -> CbCrInverseTransform
+    ensures { result ≡ record { y = t.y; cr = t.cb; cb = t.cr; g1 = t.g2; g2 = t.g1 } }
+{
+    CbCrInverseTransform {
+        y: t.y,
+        cr: t.cb,
+        cb: t.cr,
+        g1: t.g2,
+        g2: t.g1,
+    }
+}
+
+// The kernel of coefficients t at a depth and a range, in the order's letters: red or blue first.
+#[tactic(auto, unfolding(crate::specs::Kernels::red_first))]
+pub fn kernel_of(
+    depth: u32,
+    range: YuvRange,
+    order: YuvSourceChannels,
+    t: CbCrInverseTransform,
+) -> Kernel
     requires known_depth { T (among depth depths) }
     requires narrow { Narrow t }
-    ensures { result ≡ arranged depth range red_first t }
+    ensures { result ≡ arranged depth range (red_first order) t }
 {
-    if red_first {
-        return lettered_kernel(depth, range, t.y, t.cr, t.g1, t.g2, t.cb);
+    match order {
+        YuvSourceChannels::Rgb | YuvSourceChannels::Rgba => lettered_kernel(depth, range, t),
+        YuvSourceChannels::Bgra | YuvSourceChannels::Bgr => {
+            lettered_kernel(depth, range, exchanged(t))
+        }
     }
-    lettered_kernel(depth, range, t.y, t.cb, t.g2, t.g1, t.cr)
 }
 
 // The kernel of settings that no question refuses.
@@ -82,8 +82,6 @@ pub fn settings_kernel(s: Settings) -> Kernel
     requires { T (among s.depth depths) × T (usable s) }
     ensures { result ≡ kernel_of s }
 {
-    let order = s.order;
-    let range = s.range;
     let t = inverse_transform::search_inverse_transform(s);
-    kernel_of(s.depth, range, is_red_first(order), t)
+    kernel_of(s.depth, s.range, s.order, t)
 }

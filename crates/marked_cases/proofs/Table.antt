@@ -16,12 +16,13 @@ use Rattle.sheet_numbers.specs.Numbers.{decimal, all_below}
 use Rattle.y4m_text.specs.Write.{name_of, header_text}
 use Rattle.y4m_lines.specs.Lines.{before, is_line, fields, none_empty}
 use Rattle.y4m_lines.specs.Header.{named, is_number, is_side, side_of, format_of, is_colour, colour_of, is_header, width_of, height_of, format_in, is_frame_line}
-use Rattle.y4m_planes.specs.Planes.{size_of, bytes_of, sample_at, row_bytes, plane_bytes, plane_read}
+use Rattle.sample.specs.Bytes.{bytes_of, sample_at}
+use Rattle.planes.specs.Stream.{row_bytes, plane_bytes, plane_read}
 use Rattle.y4m_frames.specs.Stream.{is_known, ends_at, is_place}
 use Rattle.y4m_frames.specs.Questions.{frame_questions, frame_answer, is_read}
 use Rattle.y4m.specs.Reading.{header_questions, header_told, frame_told, y_after, u_after, v_after}
 use Rattle.y4m.specs.Writing.{write_header_answer, header_written, after_header, frame_text, write_frame_answer, frame_written, after_frame}
-use Rattle.weave_planes.specs.Woven.{alternating, woven, unwoven}
+use Rattle.planes.specs.Woven.{alternating, woven, unwoven}
 use Rattle.weave.specs.Weaving.{weave_questions, after_weaving, u_after_unweaving, v_after_unweaving}
 use Rattle.marked_cases.specs.Marked.{Marked}
 use Rattle.marked_cases.proofs.Sheet.{marked_sheet}
@@ -36,7 +37,7 @@ unfolding max_of bias_y bias_c range_y range_c unpacked weight_r weight_b weight
     of_int mul sub div le
     joined leading_digit decimal_text decimal all_below name_of header_text
     before is_line fields none_empty named is_number is_side side_of format_of is_colour colour_of is_header width_of height_of format_in is_frame_line
-    size_of bytes_of sample_at row_bytes plane_bytes plane_read is_known ends_at is_place frame_questions frame_answer is_read
+    bytes_of sample_at row_bytes plane_bytes plane_read is_known ends_at is_place frame_questions frame_answer is_read
     header_questions header_told frame_told y_after u_after v_after
     write_header_answer header_written after_header frame_text write_frame_answer frame_written after_frame
     alternating woven unwoven weave_questions after_weaving u_after_unweaving v_after_unweaving

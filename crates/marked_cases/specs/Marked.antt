@@ -16,7 +16,7 @@ use Rattle.yuv_support.specs.declared.CbCrInverseTransform.{CbCrInverseTransform
 use Rattle.yuv_support.specs.declared.Clipped.{Clipped}
 use Rattle.yuv_support.specs.declared.Codes.{Codes}
 use Rattle.yuv_support.specs.declared.Settings.{Settings}
-use Rattle.yuv_support.specs.declared.YuvPlanarImage.{YuvPlanarImage}
+use Rattle.yuv_support.specs.declared.Geometry.{Geometry}
 use Rattle.yuv_support.specs.Settings.{depths8, bias_c}
 use Rattle.yuv_support.specs.Coefficients.{coefficients_of}
 use Rattle.yuv_support.specs.Blend.{Chroma, chroma_blue, chroma_red, one, two, left, right, tail, sixteenths, rounded, chroma_width, chroma_height}
@@ -28,14 +28,12 @@ use Rattle.yuv_error.specs.Told.{as_told}
 use Rattle.sheet_text.specs.Sheet.{sheet_of}
 use Rattle.settings_used.specs.Used.{refusal, settings_used_of}
 use Rattle.y4m_text.specs.Write.{header_text}
-use Rattle.y4m_planes.specs.declared.Element.{Element}
-use Rattle.y4m_planes.specs.declared.Element.TheVariants.{Byte, Word}
 use Rattle.y4m_frames.specs.Questions.{lengths_of, strides}
 use Rattle.y4m.specs.declared.Y4mFrame.{Y4mFrame}
 use Rattle.y4m.specs.declared.Written.{Written}
 use Rattle.y4m.specs.Reading.{header_told, frame_told, y_after, u_after, v_after}
 use Rattle.y4m.specs.Writing.{header_written, after_header, frame_written, after_frame}
-use Rattle.weave_planes.specs.Woven.{lent as lent_plane}
+use Rattle.planes.specs.Woven.{lent as lent_plane}
 use Rattle.weave.specs.Weaving.{weave_questions, after_weaving, u_after_unweaving, v_after_unweaving}
 use Rattle.marked_cases.specs.Sheet.{marked_input, marked_output}
 use Rattle.marked_cases.specs.Streams.{word, w0, w2, w16384, w16385, h1, h2, c420, c420jpeg, c422, c422p10, passed_over, ended, header2x2, header1x1, frame_word, samples_short, samples, frame2x2, frame1x1}
@@ -108,7 +106,7 @@ Number13 k d =
     × (settings_used_of (codes d 1 6 k) ≡ refusal (as_told (refused 13)))
 
 -- strides and buffers just large enough for the sides
-abbrev pub image : ℕ → ℕ → YuvPlanarImage
+abbrev pub image : ℕ → ℕ → Geometry
 image width height = record {
   width = width;
   height = height;
@@ -166,11 +164,12 @@ nothing number next = answer number next 0 0 0 0 0
 abbrev pub lent : List ℕ
 lent = replicate 5 7
 
-abbrev pub read_on : Element → List ℕ → ℕ → Y4mFrame
+-- planes whose samples have e bytes
+abbrev pub read_on : ℕ → List ℕ → ℕ → Y4mFrame
 read_on e s place = frame_told e s place (strides 3 2 2) (lengths_of lent lent lent)
 
 -- Y, U and V after the call
-abbrev pub planes_after : Element → List ℕ → ℕ → List (List ℕ)
+abbrev pub planes_after : ℕ → List ℕ → ℕ → List (List ℕ)
 planes_after e s place =
     y_after e s place (strides 3 2 2) (lengths_of lent lent lent) lent
     ∷ u_after e s place (strides 3 2 2) (lengths_of lent lent lent) lent
@@ -262,39 +261,40 @@ pub record Marked : Type 0 where
       (header_told (word ++ w2 ++ h2 ++ c420 ++ ended) ≡ nothing 17 0)
       × (header_told (word ++ w0 ++ h2 ++ ended) ≡ nothing 17 0)
       × (header_told (word ++ w16385 ++ h2 ++ ended) ≡ nothing 17 0)
-      × (read_on Word (header2x2 ++ frame2x2) 0 ≡ nothing 17 0)
+      × (read_on 2 (header2x2 ++ frame2x2) 0 ≡ nothing 17 0)
   -- "Planes follow unpadded, Y, U, V"; "all else that was lent is kept"
   pub frame_read :
-      (read_on Byte (header2x2 ++ frame2x2) 0 ≡ answer 0 28 1 2 2 0 8)
-      × (planes_after Byte (header2x2 ++ frame2x2) 16
+      (read_on 1 (header2x2 ++ frame2x2) 0 ≡ answer 0 28 1 2 2 0 8)
+      × (planes_after 1 (header2x2 ++ frame2x2) 16
       ≡ (1 ∷ 2 ∷ 7 ∷ 3 ∷ 4 ∷ []) ∷ (5 ∷ 7 ∷ 7 ∷ 7 ∷ 7 ∷ []) ∷ (6 ∷ 7 ∷ 7 ∷ 7 ∷ 7 ∷ []) ∷ [])
   -- "u16 samples low byte first"
   pub low_byte_first :
-      (read_on Word (header1x1 ++ frame1x1) 0 ≡ answer 0 36 1 1 1 0 10)
-      × (planes_after Word (header1x1 ++ frame1x1) 0
+      (read_on 2 (header1x1 ++ frame1x1) 0 ≡ answer 0 36 1 1 1 0 10)
+      × (planes_after 2 (header1x1 ++ frame1x1) 0
       ≡ (513 ∷ 7 ∷ 7 ∷ 7 ∷ 7 ∷ []) ∷ (3 ∷ 7 ∷ 7 ∷ 7 ∷ 7 ∷ []) ∷ (4 ∷ 7 ∷ 7 ∷ 7 ∷ 7 ∷ []) ∷ [])
   -- "18 for a frame that ends early": the last byte is missing
   pub frame_short :
-      (read_on Byte (header2x2 ++ frame_word ++ ended ++ samples_short) 16 ≡ answer 18 16 0 2 2 0 8)
-      × (planes_after Byte (header2x2 ++ frame_word ++ ended ++ samples_short) 16 ≡ kept)
+      (read_on 1 (header2x2 ++ frame_word ++ ended ++ samples_short) 16 ≡ answer 18 16 0 2 2 0 8)
+      × (planes_after 1 (header2x2 ++ frame_word ++ ended ++ samples_short) 16 ≡ kept)
   -- "FRAME is followed by byte 10 or a space": not by an S, which is 16 before 17 too; "a place inside the header line or past the stream's end
   -- is 16"
   pub frame_line :
-      (read_on Byte (header2x2 ++ frame_word ++ passed_over 1 ++ ended ++ samples) 0 ≡ answer 0 30 1 2 2 0 8)
-      × (read_on Byte (header2x2 ++ frame_word ++ 83 ∷ ended ++ samples) 0 ≡ answer 16 0 0 2 2 0 8)
-      × (read_on Word (header2x2 ++ frame_word ++ 83 ∷ ended ++ samples) 0 ≡ nothing 16 0)
-      × (read_on Byte (header2x2 ++ frame2x2) 15 ≡ answer 16 15 0 2 2 0 8)
-      × (read_on Byte (header2x2 ++ frame2x2) 29 ≡ answer 16 29 0 2 2 0 8)
+      (read_on 1 (header2x2 ++ frame_word ++ passed_over 1 ++ ended ++ samples) 0 ≡ answer 0 30 1 2 2 0 8)
+      × (read_on 1 (header2x2 ++ frame_word ++ 83 ∷ ended ++ samples) 0 ≡ answer 16 0 0 2 2 0 8)
+      × (read_on 2 (header2x2 ++ frame_word ++ 83 ∷ ended ++ samples) 0 ≡ nothing 16 0)
+      × (read_on 1 (header2x2 ++ frame2x2) 15 ≡ answer 16 15 0 2 2 0 8)
+      × (read_on 1 (header2x2 ++ frame2x2) 29 ≡ answer 16 29 0 2 2 0 8)
   -- "Where the stream ends at the place given .. the answer is 0 and "no further frame""
   pub no_further_frame :
-      (read_on Byte (header2x2 ++ frame2x2) 28 ≡ answer 0 28 0 2 2 0 8)
-      × (read_on Byte header2x2 0 ≡ answer 0 0 0 2 2 0 8)
-      × (planes_after Byte header2x2 0 ≡ kept)
+      (read_on 1 (header2x2 ++ frame2x2) 28 ≡ answer 0 28 0 2 2 0 8)
+      × (read_on 1 header2x2 0 ≡ answer 0 0 0 2 2 0 8)
+      × (planes_after 1 header2x2 0 ≡ kept)
   -- "FRAME alone on its line, samples as they are"
   pub written_frame :
-      let l = lengths_of (1 ∷ 2 ∷ 3 ∷ 4 ∷ []) (5 ∷ []) (6 ∷ []) in
-      (frame_written Byte 0 8 (image 2 2) l 12 ≡ written 0 0 0 12)
-      × (after_frame Byte 0 8 (image 2 2) l (1 ∷ 2 ∷ 3 ∷ 4 ∷ []) (5 ∷ []) (6 ∷ []) (replicate 12 7) ≡ frame2x2)
+      let y : List ℕ = 1 ∷ 2 ∷ 3 ∷ 4 ∷ [] in
+      let l = lengths_of y (5 ∷ []) (6 ∷ []) in
+      (frame_written 1 0 8 (image 2 2) l 12 ≡ written 0 0 0 12)
+      × (after_frame 1 0 8 (image 2 2) l y (5 ∷ []) (6 ∷ []) (replicate 12 7) ≡ frame2x2)
   -- slip 3: "the marked sheet ends with `clipped 1 0`"; `sheet` has its last line
   pub sheet_clipped : clipped_on (codes 8 1 0 (tenths 0)) (100 ∷ 50 ∷ []) (128 ∷ []) (228 ∷ []) 6 ≡ counts 1 0
   -- of limited BT.709, neutral, Y 0, 16, 235, 255 the first pixel lies below 0 and the last above 255; a quotient of 0 or 255 is not clipped

@@ -1,16 +1,15 @@
 -- Parts of rows, as they are lent: their elements and their lengths.
 -- Assumes nothing.
-use mathlib.Core.Path.{◌≡◌, ◌∙◌}
+use mathlib.Core.Path.{◌≡◌}
 use mathlib.Core.Logic.{◌⊎◌, inl, inr}
 use mathlib.Core.List.{List}
 use Prim.Native.Nat.{ℕ, ◌+◌, ◌-◌, ◌*◌, ◌/◌, ◌%◌, ◌≤◌, ◌<◌}
-use native.Mathlib.Nat.{mul-le-mul_left}
 use native.Mathlib.Omega.{arith}
 use borrow.Author.Tests.{lt-ltb, le-ltb}
 use lib.ListN.{length, set, take, drop}
 use Rattle.yuv_support.proofs.Overlay.{below_or_not}
-use Rattle.numerics.specs.Row.{at, pair_chroma, tailed, Begun, GroupsFit, Reach}
-use Rattle.numerics.proofs.Row.{begun_as, begun_more, begun_filled, part_at, part_long}
+use Rattle.numerics.specs.Row.{pair_chroma, tailed, Begun, Reach}
+use Rattle.numerics.proofs.Row.{begun_as, begun_more, part_at, part_long}
 
 -- the elements from place a to place b
 abbrev pub cut : ℕ → ℕ → List ℕ → List ℕ
@@ -63,46 +62,8 @@ module _ (near far : List ℕ) (tail from m samples to : ℕ) (r : Reach (from +
           rw (lt-ltb (c / 2 + 1) (to - from) lo, lt-ltb ((2 * from + c) / 2 + 1) samples l) (chroma_part near far from to c lo)
       by_place (inr hi) = rw (le-ltb (c / 2 + 1) (to - from) hi, le-ltb ((2 * from + c) / 2 + 1) samples (past hi r.last))
 
-  -- an array that holds it
-  pub array_tailed : {xs₀ xs : List ℕ} → Begun (tailed (length (cut from to near)) (cut from to near) (cut from to far) tail) xs₀ xs (2 * m) → 2 * m ≤ length xs₀
-      → (c : ℕ) → c < 2 * m → at xs c ≡ tailed samples near far tail (2 * from + c)
-  array_tailed b room c h = (begun_filled b room).value c h ∙ tailed_part c h
-
 -- ---- lengths of the parts
-
-module _ (from m samples to : ℕ) (r : Reach (from + m) samples to) where
-  pub reach_long : (xs : List ℕ) → samples ≤ length xs → length (cut from to xs) ≡ to - from
-  reach_long xs h = part_long from to xs (omega arith)
-
-  pub reach_most : 0 < m → (1 ≤ to - from) × (m ≤ to - from) × (to - from ≤ m + 1)
-  reach_most h = (omega arith, omega arith, omega arith)
 
 module _ (from m : ℕ) where
   pub luma_room : (xs : List ℕ) → 2 * (from + m) ≤ length xs → 2 * m ≤ length (cut (2 * from) (2 * (from + m)) xs)
   luma_room xs h = rw (part_long (2 * from) (2 * (from + m)) xs h) (let l : 2 * m ≤ 2 * (from + m) - 2 * from = omega arith in l)
-
-  pub places_room : (n : ℕ) (xs : List ℕ) → n * (2 * (from + m)) ≤ length xs → length (cut (n * (2 * from)) (n * (2 * (from + m))) xs) ≡ n * (2 * m)
-  places_room n xs h =
-      let e : n * (2 * (from + m)) ≡ n * (2 * from) + n * (2 * m) = omega arith in
-      part_long (n * (2 * from)) (n * (2 * (from + m))) xs h ∙ rw e (omega arith)
-
-  pub places_order : (n : ℕ) → n * (2 * from) ≤ n * (2 * (from + m))
-  places_order n = mul-le-mul_left n (let l : 2 * from ≤ 2 * (from + m) = omega arith in l)
-
--- ---- the pairs of a row
-
--- fewer pairs, and a row that is as long
-pub fits_less : {n m pairs samples : ℕ} {row₀ row y pn pf qn qf : List ℕ} → GroupsFit n row₀ y pn pf qn qf pairs samples → m ≤ pairs → length row ≡ length row₀
-    → GroupsFit n row y pn pf qn qf m samples
-fits_less {n} {m} {pairs} f h l =
-    let p : n * (2 * m) ≤ n * (2 * pairs) = mul-le-mul_left n (omega arith) in
-    record {
-      letters = f.letters;
-      places = omega (arith, f.places);
-      luma = omega (arith, f.luma);
-      known = omega (arith, f.known);
-      first_near = f.first_near;
-      first_far = f.first_far;
-      third_near = f.third_near;
-      third_far = f.third_far;
-    }

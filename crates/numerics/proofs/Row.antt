@@ -167,9 +167,6 @@ module _ {n : ℕ} {g : ℕ → ℕ} {xs : List ℕ} where
 pub begun_filled : {n : ℕ} {g : ℕ → ℕ} {xs₀ xs : List ℕ} → Begun g xs₀ xs n → n ≤ length xs₀ → Filled n g xs
 begun_filled {n} {g} {xs₀} b h = record { value = λ j l. rw b.done (overlay_at (up_to n g) xs₀ j (omega arith) ∙ rw (lt-ltb j n l)) }
 
-pub begun_kept : {n : ℕ} {g : ℕ → ℕ} {xs₀ xs : List ℕ} → Begun g xs₀ xs n → (j : ℕ) → n ≤ j → j < length xs₀ → at xs j ≡ at xs₀ j
-begun_kept {n} {g} {xs₀} b j h l = rw b.done (overlay_at (up_to n g) xs₀ j l ∙ rw (le-ltb j n h))
-
 -- one store more to what was begun
 pub begun_more : {g : ℕ → ℕ} {xs₀ xs : List ℕ} {c v : ℕ} → Begun g xs₀ xs c → c < length xs₀ → v ≡ g c → Begun g xs₀ (set xs c v) (c + 1)
 begun_more {g} {xs₀} {xs} {c} {v} b h e = begun_sets (v ∷ []) b (omega arith) (rw add-zero e, tt) refl

@@ -1,21 +1,21 @@
 -- The columns that are left after the pairs of the groups, at most two, and so the whole row.
 -- Assumes nothing.
 use mathlib.Core.Path.{◌≡◌, refl, ap, ◌∙◌}
-use mathlib.Core.Logic.{◌⊎◌, inl, inr}
+use mathlib.Core.Logic.{◌⊎◌}
 use mathlib.Core.List.{List, [], ◌∷◌}
 use Prim.Native.Nat.{ℕ, ◌+◌, ◌-◌, ◌*◌, ◌/◌, ◌≤◌, ◌<◌}
 use native.Mathlib.Nat.{mul-le-mul_left}
 use native.Mathlib.Omega.{arith}
-use borrow.Author.Tests.{lt-ltb, le-ltb}
+use borrow.Author.Tests.{le-ltb}
 use borrow.Rule.Slice.PartMut.{put_mid}
 use lib.ListN.{length}
 use Rattle.yuv_support.specs.Blend.{chroma_width}
 use Rattle.yuv_support.specs.Picture.{row_of}
 use Rattle.yuv_support.specs.Counts.{together}
-use Rattle.yuv_support.proofs.Overlay.{below_or_not, value_at}
+use Rattle.yuv_support.proofs.Overlay.{value_at}
 use Rattle.numerics.specs.declared.Kernel.{Kernel}
-use Rattle.numerics.specs.Row.{row_value, at, pair_chroma, tailed, row_chroma, whole_value, clipped_over, whole_clipped, Begun, BlockFits, GroupsFit, RowFits}
-use Rattle.numerics.proofs.Row.{value_as, row_as, value_shifted, begun_part, begun_whole, begun_filled, begun_kept, part_at, part_long}
+use Rattle.numerics.specs.Row.{row_value, at, tailed, row_chroma, whole_value, clipped_over, whole_clipped, Begun, BlockFits}
+use Rattle.numerics.proofs.Row.{value_as, row_as, value_shifted, begun_part, begun_whole, part_at, part_long}
 use Rattle.numerics.proofs.Clips.{clipped_as, clipped_on}
 use Rattle.numerics.proofs.Choice.{some_letters}
 use Rattle.numerics.proofs.Parts.{cut}
@@ -25,45 +25,11 @@ abbrev pub pairs_of : ℕ → ℕ
 pairs_of width = chroma_width width - 1
 
 module _ (width : ℕ) (near far : List ℕ) (tail c : ℕ) where
-  pub chroma_pair : c < 2 * pairs_of width → row_chroma width near far tail c ≡ pair_chroma near far c
-  unfolding tailed
-  chroma_pair h = rw (lt-ltb (c / 2 + 1) (chroma_width width) (omega arith))
-
   pub chroma_tail : 2 * pairs_of width ≤ c → row_chroma width near far tail c ≡ tail
   unfolding tailed
   chroma_tail h = rw (le-ltb (c / 2 + 1) (chroma_width width) (omega arith))
 
--- the pairs of a row are there
-pub groups_fit : {n width all : ℕ} {row y pn pf qn qf : List ℕ} → RowFits n row y pn pf qn qf width → 2 * all ≤ width → GroupsFit n row y pn pf qn qf all (chroma_width width)
-groups_fit {n} {width} {all} f h =
-    let p : n * (2 * all) ≤ n * width = mul-le-mul_left n h in
-    record {
-      letters = f.letters;
-      places = omega (arith, f.places);
-      luma = omega (arith, f.luma);
-      known = omega arith;
-      first_near = f.first_near;
-      first_far = f.first_far;
-      third_near = f.third_near;
-      third_far = f.third_far;
-    }
-
-pub narrow_most : (width pairs : ℕ) → pairs ≡ pairs_of width → pairs < 8 → width ≤ 16
-narrow_most width pairs e h = omega arith
-
--- an array that began as the tail's sample
-pub narrow_chroma : (width : ℕ) (near far : List ℕ) (tail : ℕ) {xs₀ xs : List ℕ} → Begun (pair_chroma near far) xs₀ xs (2 * pairs_of width)
-    → ((j : ℕ) → j < 16 → at xs₀ j ≡ tail) → length xs₀ ≡ 16 → width ≤ 16 → (c : ℕ) → c < width → at xs c ≡ row_chroma width near far tail c
-narrow_chroma width near far tail {xs₀} {xs} b t l w c h = by_place (below_or_not c (2 * pairs_of width))
-  where
-    by_place : (c < 2 * pairs_of width) ⊎ (2 * pairs_of width ≤ c) → at xs c ≡ row_chroma width near far tail c
-    by_place (inl lo) = (begun_filled b (omega arith)).value c lo ∙ rw (chroma_pair width near far tail c lo)
-    by_place (inr hi) = begun_kept b c hi (omega arith) ∙ t c (omega arith) ∙ rw (chroma_tail width near far tail c hi)
-
-pub sixteen_at : (v c : ℕ) → c < 16 → at (v ∷ v ∷ v ∷ v ∷ v ∷ v ∷ v ∷ v ∷ v ∷ v ∷ v ∷ v ∷ v ∷ v ∷ v ∷ v ∷ []) c ≡ v
-sixteen_at v c h = value_at (λ j. v) (v ∷ v ∷ v ∷ v ∷ v ∷ v ∷ v ∷ v ∷ v ∷ v ∷ v ∷ v ∷ v ∷ v ∷ v ∷ v ∷ []) (refl, (refl, (refl, (refl, (refl, (refl, (refl, (refl, (refl, (refl, (refl, (refl, (refl, (refl, (refl, (refl, tt)))))))))))))))) c h
-
-two_at : (v c : ℕ) → c < 2 → at (v ∷ v ∷ []) c ≡ v
+pub two_at : (v c : ℕ) → c < 2 → at (v ∷ v ∷ []) c ≡ v
 two_at v c h = value_at (λ j. v) (v ∷ v ∷ []) (refl, (refl, tt)) c h
 
 module _ (k : Kernel) (n : ℕ) (l : (n ≡ 3) ⊎ (n ≡ 4)) (width : ℕ) (y pn pf qn qf : List ℕ) (tp tq : ℕ) where

@@ -14,6 +14,7 @@ ghost use Rattle.numerics.specs.Kernel.{letter_of_sum, OneAtMost, letters_of, le
 ghost use Rattle.numerics.specs.Signed.{min_z, cut, nat_of, signed_letter};
 ghost use Rattle.numerics.specs.Row.{at, Reach};
 
+use sample::Sample;
 use yuv_support::{Clipped, YuvMode};
 
 // The coefficients of a pixel's letters, with the biases, the rounding and the offset folded into one constant for each letter.
@@ -52,7 +53,8 @@ pub struct Letters {
     pub above: u16,
 }
 
-// ---- samples below 4,096: signed sums
+// ---- samples below 4,096: signed sums. A pixel has two forms, since these sums hold below 4,096 alone, and the form for any samples is slower
+// there. Minimum, comparison and cut are written out on i16, in the shapes that the compiler turns into one instruction for eight lanes.
 
 // A coefficient times a luma sample. Both are said to be below 32,768, so that the compiler multiplies 16 bits by 16.
 fn product(k: u16, x: u16) -> u32
@@ -185,33 +187,15 @@ pub fn lower(k: Kernel) -> Kernel
 
 // ---- any u16 samples
 
-fn saturating_sub32(a: u32, b: u32) -> u32
-    ensures { result ≡ a - b }
-{
-    if a < b { 0 } else { a - b }
-}
-
-// At most 32,767, which holds every depth: the packed 16-bit lanes of the compiler saturate there.
-fn at_most_32767(a: u32) -> u16
-    ensures { result ≡ min a 32767 }
-{
-    if 32767 < a { 32767 } else { a as u16 }
-}
-
-fn at_most(a: u16, max: u16) -> u16
-    ensures { result ≡ min a max }
-{
-    if max < a { max } else { a }
-}
-
-// Saturating rounding shift right, of a sum that is 262,144·8,192 above its value. The quotient is below 524,288.
+// Saturating rounding shift right, of a sum that is 262,144·8,192 above its value. The quotient is below 524,288. It is cut to 32,767 first,
+// which holds every depth: the packed 16-bit lanes of the compiler saturate there.
 fn qrshr16(sum: u32, max: u16) -> Letter
     requires { max ≤ 4095 }
     ensures { result ≡ letter_of_sum 262144 max sum }
 {
     let q = sum / 8192;
     Letter {
-        value: at_most(at_most_32767(saturating_sub32(q, 262144)), max),
+        value: (q.saturating_sub(262144).min(32767) as u16).min(max),
         below: 1 - (q / 262144) as u16,
         above: ((q + (262143 - max as u32)) / 524288) as u16,
     }
@@ -274,14 +258,11 @@ pub fn counted(words: &[u16]) -> Clipped
     requires { (length words.now ≤ 512) × ((j : ℕ) → j < length words.now → (at words.now j % 256 ≤ 6) × (at words.now j / 256 ≤ 6)) }
     ensures { result ≡ record { below = total (λ j. at words.now j % 256) (length words.now); above = total (λ j. at words.now j / 256) (length words.now) } }
 {
-    let n = words.len();
     let mut below: u16 = 0;
     let mut above: u16 = 0;
-    let mut j: usize = 0;
-    while j < n {
-        below += words[j] % 256;
-        above += words[j] / 256;
-        j += 1;
+    for word in words {
+        below += word % 256;
+        above += word / 256;
     }
     Clipped {
         below: below as u32,
@@ -291,21 +272,39 @@ pub fn counted(words: &[u16]) -> Clipped
 
 // ---- blends
 
-// Chroma of the tail: three quarters of a and one of c.
-pub fn tail8(a: u8, c: u8) -> u8
-    ensures { result ≡ rounded (12 * a + 4 * c) }
+// Chroma of the tail: three quarters of the near sample and one of the far one.
+pub fn tail<S: Sample>(near: S, far: S) -> S
+    ensures { S.number result ≡ rounded (12 * S.number near + 4 * S.number far) }
 {
-    ((3 * (a as u16) + (c as u16) + 2) / 4) as u8
+    let code = (3 * (near.to_u16() as u32) + (far.to_u16() as u32) + 2) / 4;
+    S::from_u16(code as u16)
 }
 
 // Cr of the tail: as the source has it, more of the far row; matched, as Cb.
-pub fn cr_tail8(near: u8, far: u8, mode: YuvMode) -> u8
-    ensures { result ≡ rounded (tail_of mode chroma_red near far) }
+pub fn cr_tail<S: Sample>(near: S, far: S, mode: YuvMode) -> S
+    ensures { S.number result ≡ rounded (tail_of mode chroma_red (S.number near) (S.number far)) }
 {
     match mode {
-        YuvMode::AsSource => tail8(far, near),
-        YuvMode::Matched => tail8(near, far),
+        YuvMode::AsSource => tail(far, near),
+        YuvMode::Matched => tail(near, far),
     }
+}
+
+// The tail's chroma at a place of its rows.
+pub fn tail_at<S: Sample>(near: &[S], far: &[S], place: usize) -> S
+    requires near { place < length (S.numbers near.now) }
+    requires far { place < length (S.numbers far.now) }
+    ensures { S.number result ≡ rounded (12 * at (S.numbers near.now) place + 4 * at (S.numbers far.now) place) }
+{
+    tail(near[place], far[place])
+}
+
+pub fn cr_tail_at<S: Sample>(near: &[S], far: &[S], place: usize, mode: YuvMode) -> S
+    requires near { place < length (S.numbers near.now) }
+    requires far { place < length (S.numbers far.now) }
+    ensures { S.number result ≡ rounded (tail_of mode chroma_red (at (S.numbers near.now) place) (at (S.numbers far.now) place)) }
+{
+    cr_tail(near[place], far[place], mode)
 }
 
 // The near and the far sample of a column, in quarters.
@@ -328,21 +327,6 @@ pub fn right16(a: u32, b: u32, half: u32) -> u16
     ensures { result ≡ rounded (a + 3 * b) }
 {
     ((a + 3 * b + half) / 16 % 65536) as u16
-}
-
-pub fn tail16(a: u16, c: u16) -> u16
-    ensures { result ≡ rounded (12 * a + 4 * c) }
-{
-    ((3 * (a as u32) + (c as u32) + 2) / 4) as u16
-}
-
-pub fn cr_tail16(near: u16, far: u16, mode: YuvMode) -> u16
-    ensures { result ≡ rounded (tail_of mode chroma_red near far) }
-{
-    match mode {
-        YuvMode::AsSource => tail16(far, near),
-        YuvMode::Matched => tail16(near, far),
-    }
 }
 
 // ---- groups of pairs

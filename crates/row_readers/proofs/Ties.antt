@@ -12,7 +12,7 @@ use lib.Dec.{eqb}
 use lib.ListN.{length, get_or}
 use Rattle.yuv_support.specs.declared.Codes.{Codes}
 use Rattle.yuv_support.specs.declared.Settings.{Settings}
-use Rattle.yuv_support.specs.declared.YuvPlanarImage.{YuvPlanarImage}
+use Rattle.yuv_support.specs.declared.Geometry.{Geometry}
 use Rattle.yuv_support.specs.Settings.{sampling_of, order_of, unpacked}
 use Rattle.yuv_support.specs.Blend.{Frame, frame_of, chroma_blue, chroma_red, chroma_width, near_row, sample, chroma_sample}
 use Rattle.yuv_support.specs.Picture.{channels_of, element_of, row_of, painted, band, picture}
@@ -49,7 +49,7 @@ row_of_picture s f stride row old wide below long =
     row_of_painted (element_of s f) stride (f.width * channels_of s.order) f.height row old wide below
     (row_fits stride (f.width * channels_of s.order) f.height row (length old) long below)
 
-module _ (known : List ℕ) (codes : Codes) (image : YuvPlanarImage) (y u v : List ℕ) (stride : ℕ) (rgb : List ℕ) (row : ℕ)
+module _ (known : List ℕ) (codes : Codes) (image : Geometry) (y u v : List ℕ) (stride : ℕ) (rgb : List ℕ) (row : ℕ)
     (converted : (answer_to known codes image y u v stride rgb).number ≡ 0) (below : row < image.height) where
   facts : Accepted known (request_for codes image y u v stride rgb)
   unfolding answer_to
@@ -109,7 +109,7 @@ pub chroma_row_at : (s : Settings) (f : Frame) (sampling plane row column : ℕ)
     → column < chroma_width f.width
     → unpacked s.packing s.depth (get_or (chroma_row_part sampling plane f.width f.height f.u f.u_stride f.v f.v_stride row) column 0)
     ≡ chroma_sample s f (wanted plane chroma_blue chroma_red) (near_row (sampling_of sampling) f.height row) column
-unfolding chroma_row_part
+unfolding chroma_row_part near_chroma_row
 chroma_row_at s f sampling plane row column e h = rw (eq-eqb _ _ e) (by_code (eqb plane 0))
   where
     by_code : (t : Bool) → unpacked s.packing s.depth (get_or (near_chroma_row sampling f.width f.height (cond t f.u_stride f.v_stride) row (cond t f.u f.v)) column 0)

@@ -1,14 +1,18 @@
-// Two readers over a picture: a finished row as a part of the destination, and a luma row's near chroma row as a part of the U or the V plane.
-// Nothing is asked of the caller. On a "no" the part is empty; the companion answers on the same inputs, and its number is 0 exactly when a
-// part came back. The `_part` functions give the answer with the part's start and length, for hosts to whom no reference can be returned.
+// Two readers over a picture of any element: a finished row as a part of the destination, and a luma row's near chroma row as a part of the
+// U or the V plane. Nothing is asked of the caller. The `_part` functions give the answer as numbers, with the part's start and length, for
+// hosts to whom no reference can be returned.
+// Codes are numbers here: C hands them over, and questions 1 and 2 are asked of them.
 #![tactic(auto)]
 
-ghost use Rattle.std.specs.Prelude.{◌≡◌, ◌+◌, ◌≤◌, length, take, drop};
-ghost use Rattle.yuv_support.specs.Questions.{extent};
-ghost use Rattle.yuv_error.specs.Told.{told};
-ghost use Rattle.row_readers.specs.Readers.{extent_of, placed, wanted, row_answer, row_part, row_place, chroma_row_answer, chroma_row_part, chroma_row_place};
+ghost use Rattle.std.specs.Prelude.{◌≡◌, ◌+◌, ◌≤◌, length, take, drop, IfOk};
+ghost use Rattle.yuv_error.specs.Told.{answered};
+ghost use Rattle.row_readers.specs.Readers.{lent, wanted, row_answer, row_part, row_place, chroma_row_answer, chroma_row_part, chroma_row_place};
+ghost use Rattle.row_readers.specs.Places.{placed_by, finished_place, near_chroma_place};
 
-use yuv_error::YuvError;
+use images::{check_chroma_row, check_row};
+use sample::plane::{Plane, Size};
+use yuv_error::buffers::buffer_of;
+use yuv_error::{Told, YuvError};
 
 // The answer as numbers, then where the part starts in its buffer and how many elements it has. On a "no" start and length are 0.
 #[repr(C)]
@@ -21,311 +25,210 @@ pub struct Part {
     pub length: u64,
 }
 
-// An answer with its part: `length` elements from `start` on, if it is accepted.
-fn placed_at(answer: YuvError, start: u64, length: u64) -> Part
-    ensures { result ≡ placed (told answer) start length }
-{
-    let told = yuv_error::told_of(answer);
-    if told.number == 0 {
-        return Part {
-            number: told.number,
-            expected: told.expected,
-            received: told.received,
-            start,
-            length,
-        };
-    }
-    Part {
-        number: told.number,
-        expected: told.expected,
-        received: told.received,
-        start: 0,
-        length: 0,
+// Where a row lies in its buffer: `length` elements from `start` on.
+#[derive(Clone, Copy)]
+struct Place {
+    start: usize,
+    length: usize,
+}
+
+impl Place {
+    fn cut<'a, T: Copy>(self, buffer: &'a [T]) -> &'a [T]
+        requires { self.start + self.length ≤ length buffer.now }
+        ensures { result.now ≡ take self.length (drop self.start buffer.now) }
+    {
+        &buffer[self.start..self.start + self.length]
     }
 }
+
+fn part_of(place: Result<Place, YuvError>) -> Part
+    ensures { result ≡ placed_by place }
+{
+    match place {
+        Ok(p) => Part {
+            number: 0,
+            expected: 0,
+            received: 0,
+            start: p.start as u64,
+            length: p.length as u64,
+        },
+        Err(e) => {
+            let told = Told::from(e);
+            Part {
+                number: told.number,
+                expected: told.expected,
+                received: told.received,
+                start: 0,
+                length: 0,
+            }
+        }
+    }
+}
+
+// ---- the finished row
+
+// Where the finished row lies in the destination.
+#[tactic(auto, using(yuv_support::proofs::Rows::row_fits))]
+fn finished_place<T: Copy>(
+    order: u32,
+    size: Size,
+    rgb: Plane<'_, T>,
+    row: u32,
+) -> Result<Place, YuvError>
+    ensures answer { answered result ≡
+        row_answer order size.width size.height (lent rgb.entry) row }
+    ensures place { IfOk result (λ p. p ≡ finished_place order size.width rgb.entry.stride row) }
+    ensures fits { IfOk result (λ p. p.start + p.length ≤ length rgb.entry.elements.now) }
+{
+    let lent = buffer_of(rgb.elements, rgb.stride);
+    let letters = check_row(order, size.width, size.height, lent, row)?;
+    let start = rgb.stride as usize * row as usize;
+    let length = images::row_length(size.width, letters) as usize;
+    Ok(Place { start, length })
+}
+
+// Row `row` of the destination, width·channels elements. Questions 2 of the order code, 3 to 6, and 14.
+#[tactic(auto, unfolding(crate::specs::Readers::row_part))]
+pub fn finished_row<'a, T: Copy>(
+    order: u32,
+    size: Size,
+    rgb: Plane<'a, T>,
+    row: u32,
+) -> Result<&'a [T], YuvError>
+    ensures answer { answered result ≡
+        row_answer order size.width size.height (lent rgb.entry) row }
+    ensures part { IfOk result (λ part. part.now ≡
+        row_part order size.width size.height rgb.entry.elements.now rgb.entry.stride row) }
+{
+    let place = finished_place(order, size, rgb, row)?;
+    Ok(place.cut(rgb.elements))
+}
+
+// The same part, or an empty one on a "no".
+#[tactic(auto, using(yuv_error::proofs::Refused::refused_number), unfolding(crate::specs::Readers::row_part))]
+pub fn finished_row_or_empty<'a, T: Copy>(
+    order: u32,
+    size: Size,
+    rgb: Plane<'a, T>,
+    row: u32,
+) -> &'a [T]
+    ensures { result.now ≡
+        row_part order size.width size.height rgb.entry.elements.now rgb.entry.stride row }
+{
+    match finished_row(order, size, rgb, row) {
+        Ok(part) => part,
+        Err(_) => &rgb.elements[..0],
+    }
+}
+
+// The answer as numbers, with the start and the length of the part.
+#[tactic(auto, using(crate::proofs::Parts::placed_result), unfolding(crate::specs::Readers::row_place))]
+pub fn finished_row_part<T: Copy>(order: u32, size: Size, rgb: Plane<'_, T>, row: u32) -> Part
+    ensures { result ≡ row_place order size.width size.height (lent rgb.entry) row }
+{
+    part_of(finished_place(order, size, rgb, row))
+}
+
+// ---- the near chroma row
 
 // Of two strides, that of the plane wanted.
 fn wanted_stride(plane: u32, u_stride: u32, v_stride: u32) -> u32
     ensures { result ≡ wanted plane u_stride v_stride }
 {
+    if plane == 0 { u_stride } else { v_stride }
+}
+
+// Where the near chroma row lies in the plane wanted.
+#[tactic(auto, using(crate::proofs::Parts::chroma_row_fits))]
+fn near_chroma_place<T: Copy>(
+    sampling: u32,
+    plane: u32,
+    size: Size,
+    u: Plane<'_, T>,
+    v: Plane<'_, T>,
+    row: u32,
+) -> Result<Place, YuvError>
+    ensures answer { answered result ≡
+        chroma_row_answer sampling plane size.width size.height (lent u.entry) (lent v.entry) row }
+    ensures place { IfOk result (λ p. p ≡
+        near_chroma_place sampling size.width size.height (wanted plane u.entry.stride v.entry.stride) row) }
+    ensures fits { IfOk result (λ p.
+        p.start + p.length ≤ length (wanted plane u.entry.elements.now v.entry.elements.now)) }
+{
+    let u_lent = buffer_of(u.elements, u.stride);
+    let v_lent = buffer_of(v.elements, v.stride);
+    let asked = check_chroma_row(
+        sampling,
+        plane,
+        size.width,
+        size.height,
+        u_lent,
+        v_lent,
+        row,
+    )?;
+    let near = images::near_row(asked.sampling, size.height, row);
+    let stride = wanted_stride(plane, u.stride, v.stride);
+    let start = stride as usize * near as usize;
+    let length = images::chroma_width(size.width) as usize;
+    Ok(Place { start, length })
+}
+
+// The near chroma row of luma row `row`, chroma width elements, from U for code 0 and from V for code 1. Questions 1, 2 of the code of the
+// plane, 3, 4, 9 to 12 of both planes, and 14.
+#[tactic(auto, unfolding(crate::specs::Readers::chroma_row_part))]
+pub fn near_chroma_row<'a, T: Copy>(
+    sampling: u32,
+    plane: u32,
+    size: Size,
+    u: Plane<'a, T>,
+    v: Plane<'a, T>,
+    row: u32,
+) -> Result<&'a [T], YuvError>
+    ensures answer { answered result ≡
+        chroma_row_answer sampling plane size.width size.height (lent u.entry) (lent v.entry) row }
+    ensures part { IfOk result (λ part. part.now ≡
+        chroma_row_part sampling plane size.width size.height
+        u.entry.elements.now u.entry.stride v.entry.elements.now v.entry.stride row) }
+{
+    let place = near_chroma_place(sampling, plane, size, u, v, row)?;
     if plane == 0 {
-        return u_stride;
+        return Ok(place.cut(u.elements));
     }
-    v_stride
+    Ok(place.cut(v.elements))
 }
 
-// Where the finished row lies in a destination of `length` elements, of any width.
-fn row_place(order: u32, width: u32, height: u32, length: u64, stride: u32, row: u32) -> Part
-    ensures { result ≡ row_place order width height (extent length stride) row }
-{
-    let answer = images::check_row(order, width, height, length, stride, row);
-    if !yuv_error::is_accepted(answer) {
-        return placed_at(answer, 0, 0);
-    }
-    let n = images::row_length(width, yuv_support::order_of(order));
-    let start = yuv_error::product(stride, row);
-    placed_at(answer, start, n as u64)
-}
-
-// Where the near chroma row lies in the plane wanted, the planes having `u_length` and `v_length` elements of any width.
-fn chroma_row_place(
+// The same part, or an empty one on a "no".
+#[tactic(auto, using(yuv_error::proofs::Refused::refused_number), unfolding(crate::specs::Readers::chroma_row_part))]
+pub fn near_chroma_row_or_empty<'a, T: Copy>(
     sampling: u32,
     plane: u32,
-    width: u32,
-    height: u32,
-    u_length: u64,
-    u_stride: u32,
-    v_length: u64,
-    v_stride: u32,
+    size: Size,
+    u: Plane<'a, T>,
+    v: Plane<'a, T>,
+    row: u32,
+) -> &'a [T]
+    ensures { result.now ≡
+        chroma_row_part sampling plane size.width size.height
+        u.entry.elements.now u.entry.stride v.entry.elements.now v.entry.stride row }
+{
+    match near_chroma_row(sampling, plane, size, u, v, row) {
+        Ok(part) => part,
+        Err(_) => &u.elements[..0],
+    }
+}
+
+// The answer as numbers, with the start and the length of the part, in the plane wanted.
+#[tactic(auto, using(crate::proofs::Parts::placed_result), unfolding(crate::specs::Readers::chroma_row_place))]
+pub fn near_chroma_row_part<T: Copy>(
+    sampling: u32,
+    plane: u32,
+    size: Size,
+    u: Plane<'_, T>,
+    v: Plane<'_, T>,
     row: u32,
 ) -> Part
-    ensures { result ≡ chroma_row_place sampling plane width height (extent u_length u_stride) (extent v_length v_stride) row }
+    ensures { result ≡
+        chroma_row_place sampling plane size.width size.height (lent u.entry) (lent v.entry) row }
 {
-    let answer = images::check_chroma_row(
-        sampling, plane, width, height, u_length, u_stride, v_length, v_stride, row,
-    );
-    if !yuv_error::is_accepted(answer) {
-        return placed_at(answer, 0, 0);
-    }
-    let near = images::near_row(yuv_support::sampling_of(sampling), height, row);
-    let stride = wanted_stride(plane, u_stride, v_stride);
-    let columns = images::chroma_width(width);
-    let start = yuv_error::product(stride, near);
-    placed_at(answer, start, columns as u64)
-}
-
-// The part of a buffer that starts where `part` says and is as long.
-fn cut8<'a>(buffer: &'a [u8], part: Part) -> &'a [u8]
-    requires { part.start + part.length ≤ length buffer.now }
-    ensures { result.now ≡ take part.length (drop part.start buffer.now) }
-{
-    let start = part.start as usize;
-    let end = start + part.length as usize;
-    &buffer[start..end]
-}
-
-// `cut8` at u16.
-fn cut16<'a>(buffer: &'a [u16], part: Part) -> &'a [u16]
-    requires { part.start + part.length ≤ length buffer.now }
-    ensures { result.now ≡ take part.length (drop part.start buffer.now) }
-{
-    let start = part.start as usize;
-    let end = start + part.length as usize;
-    &buffer[start..end]
-}
-
-// Row `row` of the destination, width·channels elements, or nothing on a "no".
-pub fn finished_row8<'a>(
-    order: u32,
-    width: u32,
-    height: u32,
-    rgb: &'a [u8],
-    rgb_stride: u32,
-    row: u32,
-) -> &'a [u8]
-    ensures { result.now ≡ row_part order width height rgb.now rgb_stride row }
-{
-    let part = finished_row_part8(order, width, height, rgb, rgb_stride, row);
-    cut8(rgb, part)
-}
-
-// The answer to that call: questions 2 of the order code, 3 to 6, and 14.
-pub fn finished_row_answer8(
-    order: u32,
-    width: u32,
-    height: u32,
-    rgb: &[u8],
-    rgb_stride: u32,
-    row: u32,
-) -> YuvError
-    ensures { told result ≡ row_answer order width height (extent_of rgb.now rgb_stride) row }
-{
-    images::check_row(order, width, height, rgb.len() as u64, rgb_stride, row)
-}
-
-// The answer with the start and the length of the part.
-pub fn finished_row_part8(
-    order: u32,
-    width: u32,
-    height: u32,
-    rgb: &[u8],
-    rgb_stride: u32,
-    row: u32,
-) -> Part
-    ensures { result ≡ row_place order width height (extent_of rgb.now rgb_stride) row }
-{
-    row_place(order, width, height, rgb.len() as u64, rgb_stride, row)
-}
-
-// `finished_row8` at u16.
-pub fn finished_row16<'a>(
-    order: u32,
-    width: u32,
-    height: u32,
-    rgb: &'a [u16],
-    rgb_stride: u32,
-    row: u32,
-) -> &'a [u16]
-    ensures { result.now ≡ row_part order width height rgb.now rgb_stride row }
-{
-    let part = finished_row_part16(order, width, height, rgb, rgb_stride, row);
-    cut16(rgb, part)
-}
-
-// `finished_row_answer8` at u16.
-pub fn finished_row_answer16(
-    order: u32,
-    width: u32,
-    height: u32,
-    rgb: &[u16],
-    rgb_stride: u32,
-    row: u32,
-) -> YuvError
-    ensures { told result ≡ row_answer order width height (extent_of rgb.now rgb_stride) row }
-{
-    images::check_row(order, width, height, rgb.len() as u64, rgb_stride, row)
-}
-
-// `finished_row_part8` at u16.
-pub fn finished_row_part16(
-    order: u32,
-    width: u32,
-    height: u32,
-    rgb: &[u16],
-    rgb_stride: u32,
-    row: u32,
-) -> Part
-    ensures { result ≡ row_place order width height (extent_of rgb.now rgb_stride) row }
-{
-    row_place(order, width, height, rgb.len() as u64, rgb_stride, row)
-}
-
-// The near chroma row of luma row `row`, chroma width elements, from U for code 0 and from V for code 1; or nothing on a "no".
-pub fn near_chroma_row8<'a>(
-    sampling: u32,
-    plane: u32,
-    width: u32,
-    height: u32,
-    u: &'a [u8],
-    u_stride: u32,
-    v: &'a [u8],
-    v_stride: u32,
-    row: u32,
-) -> &'a [u8]
-    ensures { result.now ≡ chroma_row_part sampling plane width height u.now u_stride v.now v_stride row }
-{
-    let part = near_chroma_row_part8(
-        sampling, plane, width, height, u, u_stride, v, v_stride, row,
-    );
-    if plane == 0 {
-        return cut8(u, part);
-    }
-    cut8(v, part)
-}
-
-// The answer to that call: questions 1, 2 of the code of the plane, 3, 4, 9 to 12 of both planes, and 14.
-pub fn near_chroma_row_answer8(
-    sampling: u32,
-    plane: u32,
-    width: u32,
-    height: u32,
-    u: &[u8],
-    u_stride: u32,
-    v: &[u8],
-    v_stride: u32,
-    row: u32,
-) -> YuvError
-    ensures { told result ≡ chroma_row_answer sampling plane width height (extent_of u.now u_stride) (extent_of v.now v_stride) row }
-{
-    let u_length = u.len() as u64;
-    let v_length = v.len() as u64;
-    images::check_chroma_row(
-        sampling, plane, width, height, u_length, u_stride, v_length, v_stride, row,
-    )
-}
-
-// The answer with the start and the length of the part, in the plane wanted.
-pub fn near_chroma_row_part8(
-    sampling: u32,
-    plane: u32,
-    width: u32,
-    height: u32,
-    u: &[u8],
-    u_stride: u32,
-    v: &[u8],
-    v_stride: u32,
-    row: u32,
-) -> Part
-    ensures { result ≡ chroma_row_place sampling plane width height (extent_of u.now u_stride) (extent_of v.now v_stride) row }
-{
-    let u_length = u.len() as u64;
-    let v_length = v.len() as u64;
-    chroma_row_place(
-        sampling, plane, width, height, u_length, u_stride, v_length, v_stride, row,
-    )
-}
-
-// `near_chroma_row8` at u16.
-pub fn near_chroma_row16<'a>(
-    sampling: u32,
-    plane: u32,
-    width: u32,
-    height: u32,
-    u: &'a [u16],
-    u_stride: u32,
-    v: &'a [u16],
-    v_stride: u32,
-    row: u32,
-) -> &'a [u16]
-    ensures { result.now ≡ chroma_row_part sampling plane width height u.now u_stride v.now v_stride row }
-{
-    let part = near_chroma_row_part16(
-        sampling, plane, width, height, u, u_stride, v, v_stride, row,
-    );
-    if plane == 0 {
-        return cut16(u, part);
-    }
-    cut16(v, part)
-}
-
-// `near_chroma_row_answer8` at u16.
-pub fn near_chroma_row_answer16(
-    sampling: u32,
-    plane: u32,
-    width: u32,
-    height: u32,
-    u: &[u16],
-    u_stride: u32,
-    v: &[u16],
-    v_stride: u32,
-    row: u32,
-) -> YuvError
-    ensures { told result ≡ chroma_row_answer sampling plane width height (extent_of u.now u_stride) (extent_of v.now v_stride) row }
-{
-    let u_length = u.len() as u64;
-    let v_length = v.len() as u64;
-    images::check_chroma_row(
-        sampling, plane, width, height, u_length, u_stride, v_length, v_stride, row,
-    )
-}
-
-// `near_chroma_row_part8` at u16.
-pub fn near_chroma_row_part16(
-    sampling: u32,
-    plane: u32,
-    width: u32,
-    height: u32,
-    u: &[u16],
-    u_stride: u32,
-    v: &[u16],
-    v_stride: u32,
-    row: u32,
-) -> Part
-    ensures { result ≡ chroma_row_place sampling plane width height (extent_of u.now u_stride) (extent_of v.now v_stride) row }
-{
-    let u_length = u.len() as u64;
-    let v_length = v.len() as u64;
-    chroma_row_place(
-        sampling, plane, width, height, u_length, u_stride, v_length, v_stride, row,
-    )
+    part_of(near_chroma_place(sampling, plane, size, u, v, row))
 }

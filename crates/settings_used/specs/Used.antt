@@ -5,12 +5,12 @@ use Rattle.yuv_support.specs.declared.YuvRange.{YuvRange}
 use Rattle.yuv_support.specs.declared.CbCrInverseTransform.{CbCrInverseTransform}
 use Rattle.yuv_support.specs.declared.Codes.{Codes}
 use Rattle.yuv_support.specs.declared.Settings.{Settings}
-use Rattle.yuv_support.specs.declared.YuvPlanarImage.{YuvPlanarImage}
+use Rattle.yuv_support.specs.declared.Geometry.{Geometry}
 use Rattle.yuv_support.specs.Settings.{among, depths, max_of, bias_y, bias_c}
 use Rattle.yuv_support.specs.Coefficients.{coefficients_of}
 use Rattle.yuv_support.specs.Questions.{Verdict, verdict, decoded, settings_questions}
 use Rattle.yuv_support.specs.Conversion.{answer_to}
-use Rattle.yuv_error.specs.declared.Told.{Told}
+use Rattle.yuv_error.specs.declared.report.Told.{Told}
 use Rattle.yuv_error.specs.Told.{as_told}
 use Rattle.settings_used.specs.declared.SettingsUsed.{SettingsUsed}
 
@@ -59,5 +59,5 @@ settings_used_of c = judged (verdict (settings_questions (among c.depth depths) 
 abbrev pub ConvertedHas : Type 0
 ConvertedHas =
     (known : List ℕ) → ((d : ℕ) → T (among d known) → T (among d depths))
-    → (codes : Codes) (image : YuvPlanarImage) (y u v : List ℕ) (stride : ℕ) (rgb : List ℕ)
+    → (codes : Codes) (image : Geometry) (y u v : List ℕ) (stride : ℕ) (rgb : List ℕ)
     → (answer_to known codes image y u v stride rgb).number ≡ 0 → settings_used_of codes ≡ numbers_of (decoded codes)

@@ -2,16 +2,18 @@
 // Nothing is asked of the caller: questions 1, 2 and 13, with the depths of either element width, and a "no" is the answer.
 #![tactic(auto)]
 
-ghost use Rattle.std.specs.Prelude.{◌≡◌, T};
+ghost use Rattle.std.specs.Prelude.{◌≡◌, IfOk, T};
 ghost use Rattle.yuv_support.specs.Settings.{among, depths};
-ghost use Rattle.settings_used.specs.Used.{refusal, answer, settings_used_of};
+ghost use Rattle.yuv_support.specs.Questions.{verdict, decoded, settings_questions};
+ghost use Rattle.yuv_error.specs.Told.{answered};
+ghost use Rattle.settings_used.specs.Used.{refusal, numbers_of, settings_used_of};
 
-use yuv_error::Told;
-use yuv_support::{CbCrInverseTransform, Codes, YuvRange};
+use yuv_error::{Told, YuvError};
+use yuv_support::{Codes, Settings};
 
 // The verdict, then M, bY and bC, then the coefficients times 8192. On a "no" all after the verdict are 0.
 #[repr(C)]
-#[derive(Clone, Copy)]
+#[derive(Clone, Copy, Debug, PartialEq, Eq)]
 pub struct SettingsUsed {
     pub number: u64,
     pub expected: u64,
@@ -45,13 +47,14 @@ fn refused(told: Told) -> SettingsUsed
     }
 }
 
-// The answer to an accepted setting whose coefficients are t.
-fn used(depth: u32, range: YuvRange, t: CbCrInverseTransform) -> SettingsUsed
-    requires { T (among depth depths) }
-    ensures { result ≡ answer depth range t }
+// The answer to accepted settings.
+fn used(s: Settings) -> SettingsUsed
+    requires { T (among s.depth depths) }
+    ensures { result ≡ numbers_of s }
 {
-    let max = yuv_support::max_of(depth);
-    let chroma = yuv_support::get_yuv_range(depth, range);
+    let max = yuv_support::max_of(s.depth);
+    let chroma = yuv_support::get_yuv_range(s.depth, s.range);
+    let t = inverse_transform::search_inverse_transform(s);
     SettingsUsed {
         number: 0,
         expected: 0,
@@ -67,16 +70,23 @@ fn used(depth: u32, range: YuvRange, t: CbCrInverseTransform) -> SettingsUsed
     }
 }
 
+// Questions 1, 2 and 13, and the numbers of what they accept.
+fn numbers_of(codes: Codes) -> Result<SettingsUsed, YuvError>
+    ensures answer { answered result
+        ≡ verdict (settings_questions (among codes.depth depths) codes) }
+    ensures numbers { IfOk result (λ numbers. numbers ≡ numbers_of (decoded codes)) }
+{
+    let s = images::check_settings(codes)?;
+    Ok(used(s))
+}
+
 // Any codes and weights have an answer. A conversion that is accepted has its settings used.
+#[tactic(auto, using(yuv_error::proofs::Refused::refused_number), unfolding(crate::specs::Used::settings_used_of))]
 pub fn settings_used(codes: Codes) -> SettingsUsed
     ensures { result ≡ settings_used_of codes }
 {
-    let answer = images::check_settings(codes);
-    if !yuv_error::is_accepted(answer) {
-        return refused(yuv_error::told_of(answer));
+    match numbers_of(codes) {
+        Ok(numbers) => numbers,
+        Err(e) => refused(Told::from(e)),
     }
-    let s = yuv_support::decode(codes);
-    let range = s.range;
-    let t = inverse_transform::search_inverse_transform(s);
-    used(codes.depth, range, t)
 }

@@ -11,8 +11,7 @@ use lib.ListN.{length, take, get_or, get_or-append}
 use lib.Seq.{sets, sets-eq, take_at, get_or-take, get_or_at}
 use Rattle.yuv_support.proofs.Overlay.{below_or_not}
 use Rattle.sheet_writing.specs.Text.{joined}
-use Rattle.sheet_numbers.specs.declared.Lines.{Lines}
-use Rattle.sheet_numbers.specs.declared.Lines.TheVariants.{Until, Malformed}
+use Rattle.std.specs.Prelude.{Option, Some, None}
 use Rattle.sheet_numbers.specs.Numbers.{number_at, is_number, all_below, begin, ending, is_item, are_lines, numbers_from}
 use Rattle.sheet_numbers.specs.Read.{lines_read, LinesTaken}
 use Rattle.sheet_numbers.proofs.OneNumber.{past_within}
@@ -20,15 +19,15 @@ use Rattle.sheet_numbers.proofs.ManyNumbers.{all_below_lem, holding_all, numbers
 
 -- ---- where they end
 
-until : (t : Bool) (a next : ℕ) → cond t (Until a) Malformed ≡ Until next → (t ≡ true) × (next ≡ a)
+until : (t : Bool) (a next : ℕ) → cond t (Some a) None ≡ Some next → (t ≡ true) × (next ≡ a)
 until true a next e = (refl, cc)
 until false a next e = let z : ◌≡◌ {A = ℕ} 0 1 = cc in absurd (omega arith)
 
-malformed : (t : Bool) (a : ℕ) → cond t (Until a) Malformed ≡ Malformed → t ≡ false
+malformed : (t : Bool) (a : ℕ) → cond t (Some a) None ≡ None → t ≡ false
 malformed true a e = let z : ◌≡◌ {A = ℕ} 0 1 = cc in absurd (omega arith)
 malformed false a e = refl
 
-pub lines_malformed : (s : List ℕ) (at width limit n : ℕ) {result : Lines} → result ≡ lines_read s at width limit n → result ≡ Malformed
+pub lines_malformed : (s : List ℕ) (at width limit n : ℕ) {result : Option ℕ} → result ≡ lines_read s at width limit n → result ≡ None
     → are_lines s at width limit n ≡ false
 lines_malformed s at width limit n e m = malformed (are_lines s at width limit n) (begin s at n) (sym e ∙ m)
 
@@ -48,8 +47,8 @@ pub record Lined (s : List ℕ) (at width limit n : ℕ) (xs : List ℕ) (next :
   pub within : next ≤ length s
   pub read : take n xs ≡ numbers_from s at n
 
-pub lined : {s : List ℕ} {at width limit n : ℕ} {old xs : List ℕ} {next : ℕ} {result : Lines} → at ≤ length s → n ≤ length old
-    → LinesTaken s at width limit n old xs result → result ≡ Until next → Lined s at width limit n xs next
+pub lined : {s : List ℕ} {at width limit n : ℕ} {old xs : List ℕ} {next : ℕ} {result : Option ℕ} → at ≤ length s → n ≤ length old
+    → LinesTaken s at width limit n old xs result → result ≡ Some next → Lined s at width limit n xs next
 lined {s} {at} {width} {limit} {n} {old} {xs} {next} h room t u =
     let f = until (are_lines s at width limit n) (begin s at n) next (sym t.answer ∙ u) in
     let l = numbers_length s at n in

@@ -8,13 +8,12 @@ use mathlib.Core.Logic.{◌⊎◌, inl, inr}
 use Prim.Native.Nat.{ℕ, zero, suc, ◌+◌, ◌%◌, ◌≤◌, ◌<◌}
 use native.Mathlib.Omega.{arith}
 use borrow.Author.Tests.{le-leb, lt-leb}
+use Rattle.std.specs.Prelude.{Option, Some, None}
 use lib.Dec.{eqb, lit<}
 use lib.ListN.{length, length-append, set, length-set}
 use lib.Seq.{sets}
 use Rattle.yuv_support.proofs.Overlay.{below_or_not}
 use Rattle.sheet_numbers.specs.declared.Number.{Number}
-use Rattle.sheet_numbers.specs.declared.Number.TheVariants.{Value, NoNumber}
-use Rattle.sheet_numbers.specs.declared.Lines.TheVariants.{Until, Malformed}
 use Rattle.sheet_writing.specs.Text.{joined}
 use Rattle.sheet_numbers.specs.Numbers.{number_at, past, is_number, all_below, begin, ending, is_item, are_lines, numbers_from}
 use Rattle.sheet_numbers.specs.Read.{number_read, holding, LinesTaken}
@@ -64,13 +63,13 @@ holding_first p (suc n) {i} h a e = rw (not_all p (suc n) h e) (go (λ l. holdin
 
 -- ---- what reading one number answers
 
-found : (t : Bool) (a b v n : ℕ) → cond t (Value a b) NoNumber ≡ Value v n → (t ≡ true) × (v ≡ a) × (n ≡ b)
-found true a b v n e = (refl, cc, cc)
-found false a b v n e = let z : ◌≡◌ {A = ℕ} 0 1 = cc in absurd (omega arith)
+found : (t : Bool) (m n : Number) → cond t (Some m) None ≡ Some n → (t ≡ true) × (n ≡ m)
+found true m n e = (refl, cc)
+found false m n e = let z : ◌≡◌ {A = ℕ} 0 1 = cc in absurd (omega arith)
 
-missed : (t : Bool) (a b : ℕ) → cond t (Value a b) NoNumber ≡ NoNumber → t ≡ false
-missed true a b e = let z : ◌≡◌ {A = ℕ} 0 1 = cc in absurd (omega arith)
-missed false a b e = refl
+missed : (t : Bool) (m : Number) → cond t (Some m) None ≡ None → t ≡ false
+missed true m e = let z : ◌≡◌ {A = ℕ} 0 1 = cc in absurd (omega arith)
+missed false m e = refl
 
 pub ending_positive : (width i : ℕ) → 0 < ending width i
 ending_positive width i = go (eqb ((i + 1) % width) 0)
@@ -113,23 +112,26 @@ module _ {s : List ℕ} {at width limit n : ℕ} {numbers₀ : List ℕ} where
   }
 
   -- the next number, of which `result` is what reading it answers
-  module _ {numbers : List ℕ} {place i end : ℕ} {result : Number} (r : Reading s at width limit n numbers₀ numbers place i) (h : i < n)
+  module _ {numbers : List ℕ} {place i end : ℕ} {result : Option Number} (r : Reading s at width limit n numbers₀ numbers place i) (h : i < n)
       (ends : end ≡ ending width i) (answer : result ≡ number_read s place end) where
-    pub reading_one : {value next : ℕ} → result ≡ Value value next → value ≤ limit → n ≤ length numbers₀
-        → Reading s at width limit n numbers₀ (set numbers i value) next (i + 1)
+    pub reading_one : {number : Number} → result ≡ Some number → number.value ≤ limit → n ≤ length numbers₀
+        → Reading s at width limit n numbers₀ (set numbers i number.value) number.next (i + 1)
     unfolding begin is_item
-    reading_one {value} {next} e small room =
-        let f = found (is_number s place end) (number_at s place) (past s place) value next (sym answer ∙ e) in
+    reading_one {number} e small room =
+        let value = number.value in
+        let found_number = found (is_number s place end) _ number (sym answer ∙ e) in
+        let v₁ : number.value ≡ number_at s place = ap (λ (m : Number). m.value) found_number.1 in
+        let n₁ : number.next ≡ past s place = ap (λ (m : Number). m.next) found_number.1 in
         let e₁ : i + 1 ≡ suc i = omega arith in
         let p : begin s at i ≡ place = sym r.begins in
-        let v : number_at s (begin s at i) ≡ value = ap (number_at s) p ∙ sym f.1 in
-        let item : is_item s at width limit i ≡ true = rw (p, ← ends, f.0, ← f.1, le-leb value limit small) in
+        let v : number_at s (begin s at i) ≡ value = ap (number_at s) p ∙ sym v₁ in
+        let item : is_item s at width limit i ≡ true = rw (p, ← ends, found_number.0, ← v₁, le-leb value limit small) in
         record {
           most = omega arith;
           kept = length-set numbers i value ∙ r.kept;
           formed = all_one (is_item s at width limit) i r.formed item;
-          begins = rw (e₁, p) f.2;
-          within = let w = past_within s place end (rw ends (ending_positive width i)) f.0 in omega (arith, f.2);
+          begins = rw (e₁, p) n₁;
+          within = let w = past_within s place end (rw ends (ending_positive width i)) found_number.0 in omega (arith, n₁);
           wrote =
               let l : 0 + length (numbers_from s at i) ≡ i = omega (arith, numbers_length s at i) in
               let c : sets (sets numbers₀ 0 (numbers_from s at i)) i (value ∷ []) ≡ sets numbers₀ 0 (numbers_from s at i ++ (value ∷ [])) =
@@ -138,27 +140,28 @@ module _ {s : List ℕ} {at width limit n : ℕ} {numbers₀ : List ℕ} where
         }
 
     -- the answer where it is not well formed: it is missed, or above the limit
-    refused : is_item s at width limit i ≡ false → LinesTaken s at width limit n numbers₀ numbers Malformed
+    refused : is_item s at width limit i ≡ false → LinesTaken s at width limit n numbers₀ numbers None
     refused item =
         let f = holding_first (is_item s at width limit) n h r.formed item in
         record { answer = rw (not_all (is_item s at width limit) n h item); numbers = rw f r.wrote }
 
-    pub reading_missed : result ≡ NoNumber → LinesTaken s at width limit n numbers₀ numbers Malformed
+    pub reading_missed : result ≡ None → LinesTaken s at width limit n numbers₀ numbers None
     unfolding is_item
     reading_missed e =
         let p : begin s at i ≡ place = sym r.begins in
-        let m = missed (is_number s place end) (number_at s place) (past s place) (sym answer ∙ e) in
+        let m = missed (is_number s place end) _ (sym answer ∙ e) in
         refused (rw (p, ← ends, m))
 
-    pub reading_above : {value next : ℕ} → result ≡ Value value next → limit < value → LinesTaken s at width limit n numbers₀ numbers Malformed
+    pub reading_above : {number : Number} → result ≡ Some number → limit < number.value → LinesTaken s at width limit n numbers₀ numbers None
     unfolding is_item
-    reading_above {value} {next} e large =
+    reading_above {number} e large =
         let p : begin s at i ≡ place = sym r.begins in
-        let f = found (is_number s place end) (number_at s place) (past s place) value next (sym answer ∙ e) in
-        refused (rw (p, ← ends, f.0, ← f.1, lt-leb value limit large))
+        let f = found (is_number s place end) _ number (sym answer ∙ e) in
+        let v : number_at s place ≡ number.value = sym (ap (λ (m : Number). m.value) f.1) in
+        refused (rw (p, ← ends, f.0, v, lt-leb number.value limit large))
 
   pub reading_done : {numbers : List ℕ} {place i : ℕ} → Reading s at width limit n numbers₀ numbers place i → n ≤ i
-      → LinesTaken s at width limit n numbers₀ numbers (Until place)
+      → LinesTaken s at width limit n numbers₀ numbers (Some place)
   reading_done {numbers} {place} {i} r h =
       let e : n ≡ i = omega (arith, r.most) in
       record {

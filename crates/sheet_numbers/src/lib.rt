@@ -2,8 +2,8 @@
 #![tactic(auto)]
 
 ghost use Rattle.std.specs.Prelude.{◌≡◌, ◌≤◌, ◌<◌, length};
-ghost use Rattle.sheet_numbers.specs.Numbers.{byte_at, is_digit, digits_at, number_at, ending};
-ghost use Rattle.sheet_numbers.specs.Read.{begins_with, number_read, LinesTaken};
+ghost use Rattle.sheet_numbers.specs.Numbers.{byte_at, digits_at, number_at, ending};
+ghost use Rattle.sheet_numbers.specs.Read.{number_read, LinesTaken};
 
 // The digits of a number, and the number.
 #[derive(Clone, Copy)]
@@ -14,82 +14,54 @@ struct Digits {
 
 // A number and the place after the byte that ends it.
 #[derive(Clone, Copy)]
-enum Number {
-    Value(u32, usize),
-    NoNumber,
-}
-
-// Well-formed lines, with the place after them.
-#[derive(Clone, Copy)]
-pub enum Lines {
-    Until(usize),
-    Malformed,
+struct Number {
+    value: u32,
+    next: usize,
 }
 
 // The byte at a place, 0 past the end.
 fn byte_at(s: &[u8], at: usize) -> u8
     ensures { result ≡ byte_at s.now at }
 {
-    if at < s.len() {
-        return s[at];
-    }
-    0
-}
-
-// Whether the input begins with a fixed text.
-pub fn begins_with(s: &[u8], text: &[u8]) -> bool
-    ensures { result ≡ begins_with s.now text.now }
-{
-    let mut i: usize = 0;
-    while i < text.len() {
-        if byte_at(s, i) != text[i] {
-            return false;
-        }
-        i += 1;
-    }
-    true
-}
-
-pub fn is_digit(byte: u8) -> bool
-    ensures { result ≡ is_digit byte }
-{
-    48 <= byte && byte <= 57
+    s.get(at).copied().unwrap_or(0)
 }
 
 // The digits from a place on, at most five.
 fn read_digits(s: &[u8], at: usize) -> Digits
     requires { at ≤ length s.now }
-    ensures { (result.count ≡ digits_at s.now at) × (result.value ≡ number_at s.now at) }
+    ensures count { result.count ≡ digits_at s.now at }
+    ensures value { result.value ≡ number_at s.now at }
+    ensures most { result.count ≤ 5 }
 {
-    let mut value: u32 = 0;
-    let mut count: usize = 0;
-    while count < 5 {
-        let byte = byte_at(s, at + count);
-        if !is_digit(byte) {
-            return Digits { count, value };
+    let mut digits = Digits { count: 0, value: 0 };
+    for place in at..at + 5 {
+        let byte = byte_at(s, place);
+        if !byte.is_ascii_digit() {
+            return digits;
         }
-        value = 10 * value + (byte - 48) as u32;
-        count += 1;
+        digits.value = 10 * digits.value + (byte - b'0') as u32;
+        digits.count += 1;
     }
-    Digits { count, value }
+    digits
 }
 
 // The number at a place, which the byte `end` has to end.
-fn read_number(s: &[u8], at: usize, end: u8) -> Number
+fn read_number(s: &[u8], at: usize, end: u8) -> Option<Number>
     requires { at ≤ length s.now }
     ensures { result ≡ number_read s.now at end }
 {
     let digits = read_digits(s, at);
-    let count = digits.count;
-    let value = digits.value;
-    if count < 1 {
-        return Number::NoNumber;
+    if digits.count == 0 {
+        return None;
     }
-    if byte_at(s, at + count) == end {
-        Number::Value(value, at + count + 1)
-    } else {
-        Number::NoNumber
+    let last = at + digits.count;
+    if byte_at(s, last) == end {
+        return Some(Number {
+            value: digits.value,
+            next: last + 1,
+        });
     }
+    None
 }
 
 // What ends number i, in lines of `width` numbers.
@@ -98,12 +70,12 @@ fn ending_of(width: usize, i: usize) -> u8
     ensures { result ≡ ending width i }
 {
     if (i + 1) % width == 0 {
-        return 10;
+        return b'\n';
     }
-    32
+    b' '
 }
 
-// n numbers in lines of `width`, none above `limit`.
+// n numbers in lines of `width`, none above `limit`; the answer is the place after them, where they are well formed.
 pub fn read_lines(
     s: &[u8],
     at: usize,
@@ -111,26 +83,18 @@ pub fn read_lines(
     limit: u32,
     n: usize,
     numbers: &mut [u32],
-) -> Lines
+) -> Option<usize>
     requires { (at ≤ length s.now) × (0 < width) × (n ≤ 4096) × (n ≤ length numbers.old) }
     ensures { LinesTaken s.now at width limit n numbers.old numbers.new result }
 {
     let mut place = at;
-    let mut i: usize = 0;
-    while i < n {
-        let end = ending_of(width, i);
-        let number = read_number(s, place, end);
-        match number {
-            Number::NoNumber => return Lines::Malformed,
-            Number::Value(value, next) => {
-                if limit < value {
-                    return Lines::Malformed;
-                }
-                numbers[i] = value;
-                place = next;
-            }
+    for i in 0..n {
+        let number = read_number(s, place, ending_of(width, i))?;
+        if limit < number.value {
+            return None;
         }
-        i += 1;
+        numbers[i] = number.value;
+        place = number.next;
     }
-    Lines::Until(place)
+    Some(place)
 }

@@ -1,126 +1,37 @@
--- Laws of the written picture: its pixels lie in the buffer, its lines have room in the output, and a buffer that shows each component is
--- written as the definition's table (`wrote_shown`). The counts of its last line have at most five digits.
+-- A buffer that shows each component is written as the definition's table (`shown_table`). The counts of its last line have at most five digits.
 -- Assumes nothing.
-use mathlib.Core.Path.{◌≡◌, refl, ap}
+use mathlib.Core.Path.{◌≡◌, ap}
 use mathlib.Core.List.{List, ◌++◌}
-use Prim.Native.Nat.{ℕ, suc, ◌+◌, ◌-◌, ◌*◌, ◌≤◌, ◌<◌}
-use native.Mathlib.Nat.{le_trans, mul-le-mul, mul-le-mul_left, mul-suc, mul_comm}
+use Prim.Native.Nat.{ℕ, ◌*◌, ◌≤◌, ◌<◌}
+use native.Mathlib.Nat.{le_trans, mul-le-mul}
 use native.Mathlib.Omega.{arith}
-use lib.ListN.{length, length-append}
-use Rattle.yuv_support.specs.declared.YuvSourceChannels.{YuvSourceChannels}
-use Rattle.yuv_support.specs.declared.YuvSourceChannels.TheVariants.{Rgb, Rgba, Bgra, Bgr}
 use Rattle.yuv_support.specs.declared.Settings.{Settings}
 use Rattle.yuv_support.specs.declared.Clipped.{Clipped}
 use Rattle.yuv_support.specs.Blend.{Frame}
 use Rattle.yuv_support.specs.Component.{red, green, blue}
-use Rattle.yuv_support.specs.Picture.{place_in, channels_of}
 use Rattle.yuv_support.specs.Counts.{clipped_in}
-use Rattle.yuv_support.proofs.Picture.{three_or_four_channels}
 use Rattle.yuv_support.proofs.Counts.{band_most}
-use Rattle.sheet_writing.specs.Text.{Wrote}
-use Rattle.sheet_writing.proofs.Write.{wrote_then, number_text_length, joined_length, joined_same}
-use Rattle.sheet_table.specs.declared.Places.{Places}
-use Rattle.sheet_table.specs.Table.{heading, pixel_text, pixel_line, row_text, rows_text, clipped_text, table, FiveDigits}
-use Rattle.sheet_table.specs.Shown.{stride_of, places_of, shown_pixel, shown_row, shown_rows, Small, Shows}
-
--- ---- room
-
-pub pixel_room : {A : Type 0} {p : Places} {row column : ℕ} → A × (row < p.height) × (column < p.width) × Small p
-    → (p.stride * row + p.channels * column + 3 ≤ 16384) × (p.red ≤ 2)
-pixel_room {A} {p} {row} {column} (a, hr, hc, small) =
-    let m : p.channels * suc column ≤ p.channels * p.width = mul-le-mul_left p.channels hc in
-    let e = mul-suc p.channels column in
-    (omega (arith, small.room row hr, small.letters), small.red)
-
-pub pixel_text_length : (row column r g b : ℕ) → length (pixel_text row column r g b) ≤ 30
-unfolding pixel_text
-pixel_text_length row column r g b =
-    simp length-append
-    (omega (
-      arith,
-      number_text_length row 32,
-      number_text_length column 32,
-      number_text_length r 32,
-      number_text_length g 32,
-      number_text_length b 10,
-    ))
-
-clipped_text_length : (c : Clipped) → length (clipped_text c) ≤ 20
-unfolding clipped_text
-clipped_text_length c = simp length-append (omega (arith, number_text_length c.below 32, number_text_length c.above 10))
-
-pub row_length : (rgb : List ℕ) {p : Places} (row : ℕ) → Small p → length (shown_row rgb p row p.width) ≤ 1920
-row_length rgb {p} row small =
-    let l = joined_length (shown_pixel rgb p row) 30 p.width (λ column. pixel_text_length row column _ _ _) in
-    omega (arith, small.width)
+use Rattle.sheet_writing.proofs.Write.{joined_same}
+use Rattle.sheet_table.specs.Table.{heading, pixel_line, row_text, clipped_text, table, FiveDigits}
+use Rattle.sheet_table.specs.Shown.{shown_pixel, shown_row, shown_rows, Shows}
 
 -- ---- what the buffer shows
 
--- green is the second letter, blue stands opposite to red, and red is one of the first three
-letters : (o : YuvSourceChannels) → (place_in o green ≡ 1) × (place_in o blue ≡ 2 - place_in o red) × (place_in o red ≤ 2)
-unfolding place_in
-letters Rgb = (refl, refl, omega arith)
-letters Rgba = (refl, refl, omega arith)
-letters Bgra = (refl, refl, omega arith)
-letters Bgr = (refl, refl, omega arith)
-
--- a row's elements
-pub row_room : (o : YuvSourceChannels) {width : ℕ} → width ≤ 64 → stride_of o width ≤ 256
-row_room o h = mul-le-mul h (three_or_four_channels o).1
-
-pub places_small : (o : YuvSourceChannels) {width height : ℕ} → width ≤ 64 → height ≤ 64 → Small (places_of o width height)
-places_small o {width} {height} hw hh = record {
-  width = hw;
-  height = hh;
-  letters = (three_or_four_channels o).0;
-  red = (letters o).2;
-  room =
-      λ row h.
-      let m : stride_of o width * suc row ≤ 256 * 64 = mul-le-mul (row_room o hw) (let l : suc row ≤ 64 = omega arith in l) in
-      omega (arith, mul-suc (stride_of o width) row, mul_comm (channels_of o) width);
-}
-
 module _ (s : Settings) (f : Frame) (rgb : List ℕ) (shows : Shows s f rgb) where
   shown_pixel_lem : (row column : ℕ) → row < f.height → column < f.width
-      → shown_pixel rgb (places_of s.order f.width f.height) row column ≡ pixel_line s f row column
+      → shown_pixel s.order f.width rgb row column ≡ pixel_line s f row column
   shown_pixel_lem row column hr hc =
-      let l = letters s.order in
-      rw (shows red row column hr hc, rw l.0 at (shows green row column hr hc), rw l.1 at (shows blue row column hr hc))
+      rw (shows red row column hr hc, shows green row column hr hc, shows blue row column hr hc)
 
-  shown_table : heading ++ shown_rows rgb (places_of s.order f.width f.height) f.height ++ clipped_text (clipped_in s f 0 f.height) ≡ table s f
+  -- the lines read from the buffer, with what was clipped, are the table
+  pub shown_table : {c : Clipped} → c ≡ clipped_in s f 0 f.height
+      → heading ++ shown_rows s.order f.width rgb f.height ++ clipped_text c ≡ table s f
   unfolding table
-  shown_table =
-      let p = places_of s.order f.width f.height in
-      ap (λ (t : List ℕ). heading ++ t ++ clipped_text (clipped_in s f 0 f.height))
-      (joined_same (λ row. shown_row rgb p row f.width) (λ row. row_text s f row f.width) f.height
-      (λ row hr. joined_same (shown_pixel rgb p row) (pixel_line s f row) f.width (λ column hc. shown_pixel_lem row column hr hc)))
-
--- what `put_table` and, after it, `put_clipped` write of a picture that is shown and of what was clipped in it
-pub wrote_shown : (s : Settings) (f : Frame) {p : Places} {c : Clipped} {old mid new : List ℕ} {next last : ℕ} (rgb : List ℕ)
-    → p ≡ places_of s.order f.width f.height → Shows s f rgb → c ≡ clipped_in s f 0 f.height
-    → Wrote old 0 (heading ++ shown_rows rgb p p.height) mid next → Wrote mid next (clipped_text c) new last → Wrote old 0 (table s f) new last
-wrote_shown s f rgb e shows k first second = rw (← shown_table s f rgb shows, ← k) (wrote_then (rw e at first) second)
-
--- where `put_table` ends, the last line has room
-pub room_after : (rgb : List ℕ) {p : Places} {old new : List ℕ} {next : ℕ} → Small p → Wrote old 0 (heading ++ shown_rows rgb p p.height) new next
-    → next + 20 ≤ 131072
-room_after rgb {p} small w =
-    let l = joined_length (λ row. shown_row rgb p row p.width) 1920 p.height (λ row. row_length rgb row small) in
-    let a = length-append heading (shown_rows rgb p p.height) in
-    omega (arith, small.height, w.place)
-
--- ---- the table's length
-
-pub table_length : (s : Settings) (f : Frame) → f.width ≤ 64 → f.height ≤ 64 → length (table s f) ≤ 131072
-unfolding table
-table_length s f hw hh =
-    let row : (r : ℕ) → length (row_text s f r f.width) ≤ 1920 =
-    λ r. let l = joined_length (pixel_line s f r) 30 f.width (λ c. pixel_text_length r c _ _ _) in omega arith in
-    let rows = joined_length (λ r. row_text s f r f.width) 1920 f.height row in
-    let l = length-append heading (rows_text s f f.height) in
-    let last = clipped_text_length (clipped_in s f 0 f.height) in
-    let m = length-append (heading ++ rows_text s f f.height) (clipped_text (clipped_in s f 0 f.height)) in
-    omega arith
+  shown_table {c} e =
+      rw e
+      (ap (λ (t : List ℕ). heading ++ t ++ clipped_text (clipped_in s f 0 f.height))
+      (joined_same (λ row. shown_row s.order f.width rgb row f.width) (λ row. row_text s f row f.width) f.height
+      (λ row hr. joined_same (shown_pixel s.order f.width rgb row) (pixel_line s f row) f.width (λ column hc. shown_pixel_lem row column hr hc))))
 
 -- ---- the digits of the last line
 

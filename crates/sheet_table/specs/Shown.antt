@@ -1,51 +1,37 @@
 -- The lines that a picture is written as, from the picture's buffer.
 -- Definitions only.
-use Rattle.std.specs.Prelude.{◌≡◌, List, ℕ, ◌+◌, ◌-◌, ◌*◌, ◌≤◌, ◌<◌, get_or}
+use Rattle.std.specs.Prelude.{◌≡◌, List, ℕ, ◌+◌, ◌*◌, ◌<◌, get_or}
 use Rattle.yuv_support.specs.declared.YuvSourceChannels.{YuvSourceChannels}
 use Rattle.yuv_support.specs.declared.Settings.{Settings}
 use Rattle.yuv_support.specs.Blend.{Frame}
-use Rattle.yuv_support.specs.Component.{Component, red, component_at}
+use Rattle.yuv_support.specs.Component.{Component, red, green, blue, component_at}
 use Rattle.yuv_support.specs.Picture.{channels_of, place_in}
 use Rattle.yuv_support.specs.Distance.{component_in}
 use Rattle.sheet_writing.specs.Text.{joined}
-use Rattle.sheet_table.specs.declared.Places.{Places}
 use Rattle.sheet_table.specs.Table.{pixel_text}
 
 -- the destination's rows follow each other closely
 abbrev pub stride_of : YuvSourceChannels → ℕ → ℕ
 stride_of order width = width * channels_of order
 
-abbrev pub places_of : YuvSourceChannels → ℕ → ℕ → Places
-places_of order width height = record {
-  width = width;
-  height = height;
-  stride = stride_of order width;
-  channels = channels_of order;
-  red = place_in order red;
-}
+-- what the buffer of a picture of so many columns holds of a component of the pixel at a row and a column
+abbrev pub element_at : YuvSourceChannels → ℕ → List ℕ → Component → ℕ → ℕ → ℕ
+element_at order width rgb c row column =
+    get_or rgb (stride_of order width * row + channels_of order * column + place_in order c) 0
 
--- what the buffer holds of the pixel at a row and a column, k elements after its first
-abbrev pub element_at : List ℕ → Places → ℕ → ℕ → ℕ → ℕ
-element_at rgb p row column k = get_or rgb (p.stride * row + p.channels * column + k) 0
+abbrev pub shown_pixel : YuvSourceChannels → ℕ → List ℕ → ℕ → ℕ → List ℕ
+shown_pixel order width rgb row column =
+    pixel_text row column
+    (element_at order width rgb red row column)
+    (element_at order width rgb green row column)
+    (element_at order width rgb blue row column)
 
--- green is the second letter of every order, and blue the third or the first where red is the first or the third
-abbrev pub shown_pixel : List ℕ → Places → ℕ → ℕ → List ℕ
-shown_pixel rgb p row column =
-    pixel_text row column (element_at rgb p row column p.red) (element_at rgb p row column 1) (element_at rgb p row column (2 - p.red))
+-- the lines of n pixels of a row, and of n rows
+abbrev pub shown_row : YuvSourceChannels → ℕ → List ℕ → ℕ → ℕ → List ℕ
+shown_row order width rgb row n = joined (shown_pixel order width rgb row) n
 
-abbrev pub shown_row : List ℕ → Places → ℕ → ℕ → List ℕ
-shown_row rgb p row n = joined (shown_pixel rgb p row) n
-
-abbrev pub shown_rows : List ℕ → Places → ℕ → List ℕ
-shown_rows rgb p n = joined (λ row. shown_row rgb p row p.width) n
-
--- a picture small enough for the buffers
-pub record Small (p : Places) : Type 0 where
-  pub width : p.width ≤ 64
-  pub height : p.height ≤ 64
-  pub letters : 3 ≤ p.channels
-  pub red : p.red ≤ 2
-  pub room : (row : ℕ) → row < p.height → p.stride * row + p.channels * p.width ≤ 16384
+abbrev pub shown_rows : YuvSourceChannels → ℕ → List ℕ → ℕ → List ℕ
+shown_rows order width rgb n = joined (λ row. shown_row order width rgb row width) n
 
 -- the buffer holds each component of each pixel
 abbrev pub Shows : Settings → Frame → List ℕ → Type 0

@@ -1,136 +1,132 @@
-// The table of a small picture: a heading, a line for each pixel, written from the picture's buffer, and a last line of what was clipped.
-// Each function that writes answers the place after what it wrote.
+// The table of a small picture: a heading, a line for each pixel, read from the picture's buffer, and a last line of what was clipped.
 #![tactic(auto)]
 
-ghost use Rattle.std.specs.Prelude.{◌≡◌, ◌++◌, ◌+◌, ◌≤◌, ◌<◌};
-ghost use Rattle.yuv_support.specs.Component.{red};
-ghost use Rattle.yuv_support.specs.Picture.{place_in};
-ghost use Rattle.sheet_writing.specs.Text.{Wrote};
+ghost use Rattle.std.specs.Prelude.{◌≡◌, ◌++◌, ◌+◌, ◌*◌, ◌≤◌, ◌<◌, length};
+ghost use Rattle.yuv_support.specs.Component.{red, green, blue};
+ghost use Rattle.yuv_support.specs.Picture.{channels_of, place_in};
+ghost use Rattle.sheet_writing.specs.Text.{number_text};
 ghost use Rattle.sheet_table.specs.Table.{heading, pixel_text, clipped_text};
-ghost use Rattle.sheet_table.specs.Shown.{shown_pixel, shown_row, shown_rows, Small, places_of};
+ghost use Rattle.sheet_table.specs.Shown.{stride_of, element_at, shown_pixel, shown_row, shown_rows};
 
+use crate::shape::Shape;
+use sample::Sample;
+use sheet_writing::Text;
 use yuv_support::{Clipped, YuvSourceChannels};
 
-// Where the components of a picture's pixels stand in its buffer.
+pub mod shape;
+
+// The output of a sheet: no sheet takes more bytes.
+pub type Page = Text<131072>;
+
+// A pixel with its place.
 #[derive(Clone, Copy)]
-pub struct Places {
-    pub width: u32,
-    pub height: u32,
-    pub stride: usize,
-    pub channels: usize,
-    pub red: usize,
+struct Pixel {
+    row: u32,
+    column: u32,
+    red: u16,
+    green: u16,
+    blue: u16,
 }
 
 // Where red stands among a pixel's letters.
+#[tactic(auto, unfolding(yuv_support::specs::Picture::place_in))]
 fn red_place(order: YuvSourceChannels) -> usize
-    ensures { result ≡ place_in order red }
+    ensures red { result ≡ place_in order red }
+    ensures green { place_in order green ≡ 1 }
+    ensures blue { result + place_in order blue ≡ 2 }
 {
     match order {
-        YuvSourceChannels::Rgb => 0,
-        YuvSourceChannels::Rgba => 0,
-        YuvSourceChannels::Bgra => 2,
-        YuvSourceChannels::Bgr => 2,
+        YuvSourceChannels::Rgb | YuvSourceChannels::Rgba => 0,
+        YuvSourceChannels::Bgra | YuvSourceChannels::Bgr => 2,
     }
 }
 
-// The places of a picture whose rows follow each other closely.
-pub fn places_of(order: YuvSourceChannels, width: u32, height: u32) -> Places
-    requires { width ≤ 64 }
-    ensures { result ≡ places_of order width height }
+// The pixel at a row and a column.
+fn pixel_at<S: Sample>(rgb: &[S; 16384], shape: Shape, row: u32, column: u32) -> Pixel
+    requires row { row < shape.height }
+    requires column { column < shape.width }
+    ensures row { result.row ≡ row }
+    ensures column { result.column ≡ column }
+    ensures red { result.red ≡ element_at shape.order shape.width (S.numbers rgb.now) red row column }
+    ensures green { result.green ≡ element_at shape.order shape.width (S.numbers rgb.now) green row column }
+    ensures blue { result.blue ≡ element_at shape.order shape.width (S.numbers rgb.now) blue row column }
 {
-    let channels = yuv_support::get_channels_count(order);
-    Places {
-        width,
-        height,
-        stride: width as usize * channels,
-        channels,
-        red: red_place(order),
+    let begin = shape.begin(row, column);
+    let red = red_place(shape.order);
+    Pixel {
+        row,
+        column,
+        red: sample::read(rgb, begin + red),
+        green: sample::read(rgb, begin + 1),
+        blue: sample::read(rgb, begin + (2 - red)),
     }
 }
 
-fn put_line(
-    out: &mut [u8; 131072],
-    at: usize,
-    row: u32,
-    column: u32,
-    r: u16,
-    g: u16,
-    b: u16,
-) -> usize
-    requires { at + 30 ≤ 131072 }
-    ensures { Wrote out.old at (pixel_text row column r g b) out.new result }
+// A number and the byte after it.
+#[tactic(auto, using(sheet_writing::proofs::Write::number_text_length), unfolding(sheet_writing::specs::Text::number_text))]
+fn push_field(out: &mut Page, n: u32, byte: u8)
+    requires { length out.old + 6 ≤ 131072 }
+    ensures text { out.new ≡ out.old ++ number_text n byte }
+    ensures most { length out.new ≤ length out.old + 6 }
 {
-    let after_row = sheet_writing::put_number(out, at, row, 32);
-    let after_column = sheet_writing::put_number(out, after_row, column, 32);
-    let after_red = sheet_writing::put_number(out, after_column, r as u32, 32);
-    let after_green = sheet_writing::put_number(out, after_red, g as u32, 32);
-    sheet_writing::put_number(out, after_green, b as u32, 10)
+    out.push_number(n);
+    out.push(byte);
 }
 
-// The line of a pixel of a picture.
-fn put_pixel(
-    out: &mut [u8; 131072],
-    at: usize,
-    rgb: &[u16; 16384],
-    p: Places,
-    row: u32,
-    column: u32,
-) -> usize
-    requires { (at + 30 ≤ 131072) × (row < p.height) × (column < p.width) × Small p }
-    ensures { Wrote out.old at (shown_pixel rgb.now p row column) out.new result }
+// The line of a pixel.
+fn push_pixel(out: &mut Page, pixel: Pixel)
+    requires { length out.old + 30 ≤ 131072 }
+    ensures text { out.new ≡ out.old ++ pixel_text pixel.row pixel.column pixel.red pixel.green pixel.blue }
+    ensures most { length out.new ≤ length out.old + 30 }
 {
-    let i = p.stride * row as usize + p.channels * column as usize;
-    let red = i + p.red;
-    let green = i + 1;
-    let blue = i + (2 - p.red);
-    put_line(out, at, row, column, rgb[red], rgb[green], rgb[blue])
+    push_field(out, pixel.row, b' ');
+    push_field(out, pixel.column, b' ');
+    push_field(out, pixel.red as u32, b' ');
+    push_field(out, pixel.green as u32, b' ');
+    push_field(out, pixel.blue as u32, b'\n');
 }
 
 // The lines of a row.
-fn put_row(out: &mut [u8; 131072], at: usize, rgb: &[u16; 16384], p: Places, row: u32) -> usize
-    requires { (at + 1920 ≤ 131072) × (row < p.height) × Small p }
-    ensures { Wrote out.old at (shown_row rgb.now p row p.width) out.new result }
+fn push_row<S: Sample>(out: &mut Page, rgb: &[S; 16384], shape: Shape, row: u32)
+    requires room { length out.old + 1920 ≤ 131072 }
+    requires row { row < shape.height }
+    ensures text { out.new ≡ out.old ++ shown_row shape.order shape.width (S.numbers rgb.now) row shape.width }
+    ensures most { length out.new ≤ length out.old + 1920 }
 {
-    let width = p.width;
-    let mut place = at;
-    let mut column: u32 = 0;
-    while column < width {
-        place = put_pixel(out, place, rgb, p, row, column);
-        column += 1;
+    for column in 0..shape.width {
+        push_pixel(out, pixel_at(rgb, shape, row, column));
     }
-    place
 }
 
 // The lines of all rows.
-fn put_rows(out: &mut [u8; 131072], at: usize, rgb: &[u16; 16384], p: Places) -> usize
-    requires { (at + 122880 ≤ 131072) × Small p }
-    ensures { Wrote out.old at (shown_rows rgb.now p p.height) out.new result }
+fn push_rows<S: Sample>(out: &mut Page, rgb: &[S; 16384], shape: Shape)
+    requires { length out.old + 122880 ≤ 131072 }
+    ensures text { out.new ≡ out.old ++ shown_rows shape.order shape.width (S.numbers rgb.now) shape.height }
+    ensures most { length out.new ≤ length out.old + 122880 }
 {
-    let height = p.height;
-    let mut place = at;
-    let mut row: u32 = 0;
-    while row < height {
-        place = put_row(out, place, rgb, p, row);
-        row += 1;
+    for row in 0..shape.height {
+        push_row(out, rgb, shape, row);
     }
-    place
-}
-
-// The heading and the lines of all rows, at the begin of the output.
-pub fn put_table(out: &mut [u8; 131072], rgb: &[u16; 16384], p: Places) -> usize
-    requires { Small p }
-    ensures { Wrote out.old 0 (heading ++ shown_rows rgb.now p p.height) out.new result }
-{
-    let at = sheet_writing::put_bytes(out, 0, b"row column r g b\n");
-    put_rows(out, at, rgb, p)
 }
 
 // The last line, of what was clipped.
-pub fn put_clipped(out: &mut [u8; 131072], at: usize, c: Clipped) -> usize
-    requires { at + 20 ≤ 131072 }
-    ensures { Wrote out.old at (clipped_text c) out.new result }
+#[tactic(auto, unfolding(crate::specs::Table::clipped_text))]
+fn push_clipped(out: &mut Page, c: Clipped)
+    requires { length out.old + 20 ≤ 131072 }
+    ensures { out.new ≡ out.old ++ clipped_text c }
 {
-    let after_word = sheet_writing::put_bytes(out, at, b"clipped ");
-    let after_below = sheet_writing::put_number(out, after_word, c.below, 32);
-    sheet_writing::put_number(out, after_below, c.above, 10)
+    out.push_bytes(b"clipped ");
+    push_field(out, c.below, b' ');
+    push_field(out, c.above, b'\n');
+}
+
+// The table of a picture that stands in a buffer, and of what was clipped in it.
+pub fn table_of<S: Sample>(rgb: &[S; 16384], shape: Shape, clipped: Clipped) -> Page
+    ensures { result ≡ heading ++ shown_rows shape.order shape.width (S.numbers rgb.now) shape.height ++ clipped_text clipped }
+{
+    let mut out: Page = Text::new();
+    out.push_bytes(b"row column r g b\n");
+    push_rows(&mut out, rgb, shape);
+    push_clipped(&mut out, clipped);
+    out
 }

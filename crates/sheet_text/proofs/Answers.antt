@@ -17,7 +17,12 @@ use Rattle.sheet_numbers.specs.Numbers.{byte_at, number_at, begin, are_lines}
 use Rattle.sheet_numbers.proofs.OneNumber.{inside}
 use Rattle.sheet_numbers.proofs.ManyNumbers.{all_below_lem}
 use Rattle.sheet_numbers.proofs.Lined.{Lined, number_read, lines_most}
+use Rattle.std.specs.Prelude.{Result, Ok, Err}
+use Rattle.yuv_support.specs.declared.Settings.{Settings}
+use Rattle.sheet_values.specs.declared.Refusal.{Refusal}
+use Rattle.sheet_values.specs.declared.Refusal.TheVariants.{UnknownSampling, UnknownCode, Malformed}
 use Rattle.sheet_values.specs.declared.Values.{Values}
+use Rattle.sheet_values.specs.Known.{number_of, settings_of}
 use Rattle.sheet_values.specs.Values.{codes_of, luma_count, widest, is_small, values_in}
 use Rattle.sheet_values.proofs.Sizes.{small_sides, luma_count_most, chroma_count_most}
 use Rattle.sheet_table.specs.Table.{table}
@@ -37,8 +42,8 @@ use Rattle.sheet_text.specs.Sheet.{
   refusal,
   sheet_of,
 }
-use Rattle.sheet_text.specs.Answer.{AfterValues, Planes, rest_text, values_text}
-use Rattle.sheet_text.proofs.PlaneLines.{Answered}
+use Rattle.sheet_text.specs.declared.Start.{Start}
+use Rattle.sheet_text.specs.Answer.{PlanesRead, rest_text, values_text, start_of}
 
 -- ---- question 15 of the rest
 
@@ -66,48 +71,40 @@ small_fits {v} e hs k =
       height = t.3;
     }
 
--- the planes may be read
-pub small_asks : {s : List ℕ} {at : ℕ} {v : Values} {y u w : List ℕ} → AfterValues s at → is_small v ≡ true → length y ≡ 4096 → length u ≡ 4096 → length w ≡ 4096
-    → Planes s at v y u w
-small_asks {s} {at} {v} after e ly lu lw =
-    let t = small_sides v e in
-    record { after = after; width_least = t.0; width = t.1; height = t.3; luma = ly; cb = lu; cr = lw }
-
--- what their reading answers, by `Answered`
-module _ {s : List ℕ} {v : Values} {r : Bool} {y u w : List ℕ} (small : is_small v ≡ true) (answered : Answered s v r y u w) where
-  pub not_whole : r ≡ false → rest_text s v ≡ refusal 15
+-- what reading the planes answers
+module _ (s : List ℕ) (v : Values) (small : is_small v ≡ true) where
+  pub planes_missed : (has_planes s v && is_whole s v) ≡ false → rest_text s v ≡ refusal 15
   unfolding rest_formed
-  not_whole e = rw (small, ← answered.0, e)
+  planes_missed e = rw (small, e)
 
-  pub rest_table : r ≡ true → rest_text s v ≡ table (decoded (codes_of v)) (planes_frame v y u w)
+  pub planes_table : {y u w : List ℕ} → (has_planes s v && is_whole s v) ≡ true → PlanesRead s v y u w
+      → rest_text s v ≡ table (decoded (codes_of v)) (planes_frame v y u w)
   unfolding rest_formed sheet_frame
-  rest_table e = let p = answered.1 e in rw (small, ← answered.0, e, p.luma, p.cb, p.cr)
-
-  pub planes_samples : r ≡ true → length y ≡ 4096 → length u ≡ 4096 → length w ≡ 4096 → Samples (widest v) v y u w
-  planes_samples e ly lu lw =
-      let p = answered.1 e in
-      let t = small_sides v small in
-      let a = (and-eq-true_iff (has_planes s v) (is_whole s v)).0 (sym answered.0 ∙ e) in
-      let b = (and-eq-true_iff (are_lines s (luma_begin s) v.width (widest v) (luma_count v) && _) _).0 a.0 in
-      let c = (and-eq-true_iff (are_lines s (luma_begin s) v.width (widest v) (luma_count v)) _).0 b.0 in
-      let n = luma_count_most v t.1 t.3 in
-      let m = chroma_count_most v t.1 t.3 in
-      record {
-        luma = record { long = omega arith; most = lines_most _ _ _ _ _ c.0 p.luma };
-        cb = record { long = omega arith; most = lines_most _ _ _ _ _ c.1 p.cb };
-        cr = record { long = omega arith; most = lines_most _ _ _ _ _ b.1 p.cr };
-      }
+  planes_table e p = rw (small, e, p.luma, p.cb, p.cr)
 
 -- ---- questions 1 and 2
 
-pub sampling_unknown : (s : List ℕ) (v : Values) → 1 < v.sampling → values_text s v ≡ refusal 1
-sampling_unknown s v h = rw (lt-leb v.sampling 1 h)
+-- the settings that they answer with, or what is printed in their place
+pub settings_known : (s : List ℕ) (v : Values) {t : Settings} → settings_of v ≡ Ok t
+    → (v.sampling ≤ 1) × T (codes_known (among v.depth depths) (codes_of v)).holds × (values_text s v ≡ rest_text s v)
+settings_known s v {t} e = go (leb v.sampling 1) (codes_known (among v.depth depths) (codes_of v)).holds refl refl e
+  where
+    go : (a b : Bool) → leb v.sampling 1 ≡ a → (codes_known (among v.depth depths) (codes_of v)).holds ≡ b
+        → cond a (cond b (Ok (decoded (codes_of v))) (Err UnknownCode)) (Err UnknownSampling) ≡ Ok t
+        → (v.sampling ≤ 1) × T (codes_known (among v.depth depths) (codes_of v)).holds × (values_text s v ≡ rest_text s v)
+    go true true p q r = (leb-true _ _ p, rw q tt, rw (p, q))
+    go true false p q r = absurd (cc)
+    go false b p q r = absurd (cc)
 
-pub code_unknown : (s : List ℕ) (v : Values) → v.sampling ≤ 1 → (codes_known (among v.depth depths) (codes_of v)).holds ≡ false → values_text s v ≡ refusal 2
-code_unknown s v h e = rw (le-leb v.sampling 1 h, e)
-
-pub values_known : (s : List ℕ) (v : Values) → v.sampling ≤ 1 → (codes_known (among v.depth depths) (codes_of v)).holds ≡ true → values_text s v ≡ rest_text s v
-values_known s v h e = rw (le-leb v.sampling 1 h, e)
+pub settings_refused : (s : List ℕ) (v : Values) {why : Refusal} → settings_of v ≡ Err why → refusal (number_of why) ≡ values_text s v
+settings_refused s v {why} e = go (leb v.sampling 1) (codes_known (among v.depth depths) (codes_of v)).holds refl refl e
+  where
+    go : (a b : Bool) → leb v.sampling 1 ≡ a → (codes_known (among v.depth depths) (codes_of v)).holds ≡ b
+        → cond a (cond b (Ok (decoded (codes_of v))) (Err UnknownCode)) (Err UnknownSampling) ≡ Err why
+        → refusal (number_of why) ≡ values_text s v
+    go true true p q r = absurd (cc)
+    go true false p q r = let w : UnknownCode ≡ why = cc in rw (← w, p, q)
+    go false b p q r = let w : UnknownSampling ≡ why = cc in rw (← w, p)
 
 -- ---- the first two lines
 
@@ -150,8 +147,37 @@ values_read {s} {numbers} l = rw (at 0 (lit< tt), at 1 (lit< tt), at 2 (lit< tt)
     at : (i : ℕ) → i < 7 → get_or numbers i 0 ≡ number_at s (begin s 47 i)
     at i h = number_read s 47 numbers l.read h
 
--- ---- the whole output
+-- what the first two lines say, or what is printed in its place
+pub started : (s : List ℕ) {t : Start} → start_of s ≡ Ok t → (sheet_of s ≡ values_text s t.values) × (t.at ≡ luma_begin s)
+unfolding has_values
+started s {t} e = go (has_names s) (has_values s) refl refl e
+  where
+    go : (a b : Bool) → has_names s ≡ a → has_values s ≡ b → cond {A = Result Start Refusal} (a && b) (Ok (record { values = values_of s; at = luma_begin s })) (Err Malformed) ≡ Ok t
+        → (sheet_of s ≡ values_text s t.values) × (t.at ≡ luma_begin s)
+    go true true p q r =
+        let v : values_of s ≡ t.values = cc in
+        let l : luma_begin s ≡ t.at = cc in
+        (lines_formed s p q ∙ rw v, sym l)
+    go true false p q r = absurd (cc)
+    go false b p q r = absurd (cc)
 
-pub wrote_whole : {old new : List ℕ} {next : ℕ} {text written : List ℕ} → Wrote old 0 written new next → text ≡ written
-    → (next ≡ length text) × (new ≡ sets old 0 text)
-wrote_whole {old} {new} {next} {text} {written} w e = rw e ((let p = w.place in omega arith, w.bytes))
+pub not_started : (s : List ℕ) {why : Refusal} → start_of s ≡ Err why → refusal (number_of why) ≡ sheet_of s
+unfolding has_values
+not_started s {why} e = go (has_names s) (has_values s) refl refl e
+  where
+    go : (a b : Bool) → has_names s ≡ a → has_values s ≡ b → cond {A = Result Start Refusal} (a && b) (Ok (record { values = values_of s; at = luma_begin s })) (Err Malformed) ≡ Err why
+        → refusal (number_of why) ≡ sheet_of s
+    go true true p q r = absurd (cc)
+    go true false p q r = let w : Malformed ≡ why = cc in rw (← w) (sym (values_missed s p q))
+    go false b p q r = let w : Malformed ≡ why = cc in rw (← w) (sym (names_missed s p))
+
+-- what is answered of them
+module _ (s : List ℕ) where
+  pub names_none : has_names s ≡ false → Err Malformed ≡ start_of s
+  names_none e = rw e
+
+  pub values_none : has_names s ≡ true → has_values s ≡ false → Err Malformed ≡ start_of s
+  values_none e f = rw (e, f)
+
+  pub values_some : {t : Start} → has_names s ≡ true → has_values s ≡ true → t.values ≡ values_of s → t.at ≡ luma_begin s → Ok t ≡ start_of s
+  values_some e f v a = rw (e, f, ← v, ← a)

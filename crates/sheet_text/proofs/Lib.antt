@@ -1,3 +1,2 @@
 pub mod PlaneLines
 pub mod Answers
-pub mod Lengths

@@ -1,91 +1,123 @@
 // The sheet of document 01 as a function from the bytes that are read to the bytes that are written.
 #![tactic(auto)]
 
-ghost use Rattle.std.specs.Prelude.{◌≡◌, true, ◌&&◌, ◌≤◌, T, length};
+ghost use Rattle.std.specs.Prelude.{◌≡◌, ◌&&◌, ◌≤◌, length, is_some, IfSome, IfOk};
 ghost use Rattle.std.proofs.lemmas.List.Edits.{sets};
-ghost use Rattle.yuv_support.specs.Settings.{among, depths};
-ghost use Rattle.yuv_support.specs.Questions.{codes_known};
-ghost use Rattle.sheet_writing.specs.Text.{Wrote};
-ghost use Rattle.sheet_values.specs.Values.{codes_of};
-ghost use Rattle.sheet_text.specs.Sheet.{has_names, has_planes, is_whole, refusal, sheet_of};
-ghost use Rattle.sheet_text.specs.Answer.{Planes, PlanesRead, AfterValues, rest_text, values_text};
+ghost use Rattle.yuv_support.specs.Settings.{depths};
+ghost use Rattle.sheet_values.specs.Values.{widest};
+ghost use Rattle.sheet_values.specs.Known.{number_of};
+ghost use Rattle.sheet_picture.specs.Samples.{Fit, Samples};
+ghost use Rattle.sheet_text.specs.Sheet.{has_planes, is_whole, refusal, sheet_of};
+ghost use Rattle.sheet_text.specs.Answer.{PlanesAsk, PlanesRead, start_of, printed};
 
-use sheet_numbers::Lines;
-use sheet_values::Values;
+use sheet_numbers::read_lines;
+use sheet_picture::Planes;
+use sheet_table::Page;
+use sheet_values::{Refusal, Values};
+use sheet_writing::Text;
 
-// Whether the input begins with the line of names.
-fn has_names(s: &[u8]) -> bool
-    ensures { result ≡ has_names s.now }
-{
-    sheet_numbers::begins_with(s, b"depth sampling order range matrix width height\n")
+// The values of the second line, and the place after it.
+#[derive(Clone, Copy)]
+struct Start {
+    values: Values,
+    at: usize,
 }
 
-// The line of a refusal.
-fn put_refusal(out: &mut [u8; 131072], number: u32) -> usize
-    ensures { Wrote out.old 0 (refusal number) out.new result }
-{
-    let at = sheet_writing::put_bytes(out, 0, b"refused ");
-    sheet_writing::put_number(out, at, number, 10)
+// A sheet whose questions are answered.
+#[derive(Drop)]
+struct Sheet {
+    values: Values,
+    planes: Planes,
 }
 
-// Whether all rows of Y, U and V stand well formed from a place on, with nothing over; then their samples are the first of the three slices.
-fn read_planes(s: &[u8], at: usize, v: Values, y: &mut [u32], u: &mut [u32], w: &mut [u32]) -> bool
-    requires { Planes s.now at v y.old u.old w.old }
-    ensures answer { result ≡ (has_planes s.now v && is_whole s.now v) }
-    ensures planes { result ≡ true → PlanesRead s.now v y.new u.new w.new }
+// Question 15 of the first two lines: the line of names, then seven numbers.
+fn read_values(s: &[u8]) -> Result<Start, Refusal>
+    ensures answer { result ≡ start_of s.now }
+    ensures within { IfOk result (λ t. t.at ≤ length s.now) }
 {
-    let limit = sheet_values::widest_of(v);
-    let n = sheet_values::luma_count(v);
-    let m = sheet_values::chroma_count(v);
-    let width = v.width as usize;
-    let chroma_width = (width + 1) / 2;
-    let luma = sheet_numbers::read_lines(s, at, width, limit, n, y);
-    let Lines::Until(u_at) = luma else {
-        return false;
-    };
-    let cb = sheet_numbers::read_lines(s, u_at, chroma_width, limit, m, u);
-    let Lines::Until(v_at) = cb else {
-        return false;
-    };
-    let cr = sheet_numbers::read_lines(s, v_at, chroma_width, limit, m, w);
-    let Lines::Until(end) = cr else {
-        return false;
-    };
-    if end == s.len() {
-        return s.len() <= 65536;
+    if !s.starts_with(b"depth sampling order range matrix width height\n") {
+        return Err(Refusal::Malformed);
     }
-    false
+    let mut numbers = [0u32; 7];
+    match read_lines(s, 47, 7, 99999, 7, &mut numbers) {
+        Some(at) => Ok(Start {
+            values: Values::from(numbers),
+            at,
+        }),
+        None => Err(Refusal::Malformed),
+    }
 }
 
-// Question 15 of the rest, and the table.
-fn answer_rest(out: &mut [u8; 131072], s: &[u8], at: usize, v: Values) -> usize
-    requires { AfterValues s.now at × (v.sampling ≤ 1) × T (codes_known (among v.depth depths) (codes_of v)).holds }
-    ensures { Wrote out.old 0 (rest_text s.now v) out.new result }
+// All rows of Y, U and V, where they stand well formed from a place on, with nothing over.
+fn read_planes(s: &[u8], at: usize, v: Values) -> Option<Planes>
+    requires { PlanesAsk s.now at v }
+    ensures answer { is_some result ≡ (has_planes s.now v && is_whole s.now v) }
+    ensures planes { IfSome result (λ p. PlanesRead s.now v p.y p.u p.v) }
+    ensures samples { IfSome result (λ p. Samples (widest v) v p.y p.u p.v) }
 {
-    if !sheet_values::is_small(v) {
-        return put_refusal(out, 15);
-    }
     let mut y = [0u32; 4096];
     let mut u = [0u32; 4096];
     let mut w = [0u32; 4096];
-    if read_planes(s, at, v, &mut y, &mut u, &mut w) {
-        return sheet_picture::put_picture(out, v, &y, &u, &w);
+    let limit = v.widest();
+    let m = v.chroma_count();
+    let chroma_width = images::chroma_width(v.width) as usize;
+    let u_at = read_lines(s, at, v.width as usize, limit, v.luma_count(), &mut y)?;
+    let v_at = read_lines(s, u_at, chroma_width, limit, m, &mut u)?;
+    let end = read_lines(s, v_at, chroma_width, limit, m, &mut w)?;
+    if end == s.len() && end <= 65536 {
+        return Some(Planes { y, u, v: w });
     }
-    put_refusal(out, 15)
+    None
 }
 
-// Questions 1 and 2, then the rest.
-fn answer_values(out: &mut [u8; 131072], s: &[u8], at: usize, v: Values) -> usize
-    requires { AfterValues s.now at }
-    ensures { Wrote out.old 0 (values_text s.now v) out.new result }
+// Question 15 of the first two lines, 1 and 2, and 15 of the rest.
+fn read_sheet(s: &[u8]) -> Result<Sheet, Refusal>
+    ensures text { printed result ≡ sheet_of s.now }
+    ensures fit { IfOk result (λ t. Fit depths t.values) }
+    ensures samples { IfOk result (λ t. Samples (widest t.values) t.values t.planes.y t.planes.u t.planes.v) }
 {
-    if 1 < v.sampling {
-        return put_refusal(out, 1);
+    let start = read_values(s)?;
+    let values = start.values;
+    values.settings()?;
+    if !values.is_small() {
+        return Err(Refusal::Malformed);
     }
-    if sheet_values::is_known(v) {
-        return answer_rest(out, s, at, v);
+    let Some(planes) = read_planes(s, start.at, values) else {
+        return Err(Refusal::Malformed);
+    };
+    Ok(Sheet { values, planes })
+}
+
+fn number_of(refusal: Refusal) -> u32
+    ensures { result ≡ number_of refusal }
+{
+    match refusal {
+        Refusal::UnknownSampling => 1,
+        Refusal::UnknownCode => 2,
+        Refusal::Malformed => 15,
     }
-    put_refusal(out, 2)
+}
+
+// The line of a refusal.
+#[tactic(auto, unfolding(crate::specs::Sheet::refusal, sheet_writing::specs::Text::number_text))]
+fn refusal_text(why: Refusal) -> Page
+    ensures { result ≡ refusal (number_of why) }
+{
+    let mut text: Page = Text::new();
+    text.push_bytes(b"refused ");
+    text.push_number(number_of(why));
+    text.push(b'\n');
+    text
+}
+
+// The table, or the line of the refusal.
+fn text_of(s: &[u8]) -> Page
+    ensures { result ≡ sheet_of s.now }
+{
+    match read_sheet(s) {
+        Ok(sheet) => sheet_picture::table_of(sheet.values, &sheet.planes),
+        Err(why) => refusal_text(why),
+    }
 }
 
 // The sheet of an input of any length. What is written stands at the begin of the output, whose other bytes are kept; the answer is how
@@ -93,14 +125,10 @@ fn answer_values(out: &mut [u8; 131072], s: &[u8], at: usize, v: Values) -> usiz
 pub fn sheet_text(input: &[u8], output: &mut [u8; 131072]) -> usize
     ensures length { result ≡ length (sheet_of input.now) }
     ensures text { output.new ≡ sets output.old 0 (sheet_of input.now) }
+    ensures fits { result ≤ 131072 }
 {
-    if !has_names(input) {
-        return put_refusal(output, 15);
-    }
-    let mut numbers = [0u32; 7];
-    let line = sheet_numbers::read_lines(input, 47, 7, 99999, 7, &mut numbers);
-    match line {
-        Lines::Malformed => put_refusal(output, 15),
-        Lines::Until(at) => answer_values(output, input, at, sheet_values::values_of(&numbers)),
-    }
+    let text = text_of(input);
+    let bytes = text.as_bytes();
+    output[..bytes.len()].copy_from_slice(bytes);
+    bytes.len()
 }

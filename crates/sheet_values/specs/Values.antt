@@ -4,7 +4,7 @@ use Rattle.std.specs.Prelude.{ℕ, ◌*◌, Bool, cond, ◌&&◌, List, eqb, leb
 use Rattle.std.specs.Float.{binary32}
 use Rattle.std.specs.Float.Ieee.{of_bits}
 use Rattle.yuv_support.specs.declared.Codes.{Codes}
-use Rattle.yuv_support.specs.declared.YuvPlanarImage.{YuvPlanarImage}
+use Rattle.yuv_support.specs.declared.Geometry.{Geometry}
 use Rattle.yuv_support.specs.Settings.{sampling_of}
 use Rattle.yuv_support.specs.Blend.{chroma_width, chroma_height}
 use Rattle.sheet_values.specs.declared.Values.{Values}
@@ -27,7 +27,7 @@ codes_of v = record {
 }
 
 -- rows follow each other closely, so the strides are the widths
-abbrev pub image_of : Values → YuvPlanarImage
+abbrev pub image_of : Values → Geometry
 image_of v = record {
   width = v.width;
   height = v.height;

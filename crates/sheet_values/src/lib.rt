@@ -1,15 +1,27 @@
-// The seven values of a sheet: the codes and the sides that they are, how many samples they ask for, and what questions 2 and 15 ask of them.
+// The seven values of a sheet: the codes and the sides that they are, how many samples they ask for, and what questions 1, 2 and 15 ask of them.
 #![tactic(auto)]
 
 ghost use Rattle.std.specs.Prelude.{◌≡◌, ◌≤◌};
-ghost use Rattle.yuv_support.specs.Settings.{among, depths};
-ghost use Rattle.yuv_support.specs.Questions.{codes_known};
 ghost use Rattle.sheet_values.specs.Values.{codes_of, image_of, luma_count, chroma_count, widest, is_small, values_in};
+ghost use Rattle.sheet_values.specs.Known.{settings_of};
 
-use yuv_support::{Codes, YuvPlanarImage};
+use sample::depths::EitherElement;
+use yuv_error::YuvError;
+use yuv_support::{Codes, Geometry, Settings};
 
-// The values of a sheet's second line.
-#[derive(Clone, Copy)]
+// Why no table is printed: the first question that gets a "no".
+#[derive(Clone, Copy, Debug, PartialEq, Eq)]
+pub enum Refusal {
+    // 1
+    UnknownSampling,
+    // 2
+    UnknownCode,
+    // 15: the text, a side or the matrix is not that of a sheet
+    Malformed,
+}
+
+// The values of a sheet's second line. The codes stand as they are read: questions 1, 2 and 15 say which of them name something.
+#[derive(Clone, Copy, Debug, PartialEq, Eq)]
 pub struct Values {
     pub depth: u32,
     pub sampling: u32,
@@ -20,102 +32,101 @@ pub struct Values {
     pub height: u32,
 }
 
-// The values as they stand in the line.
-pub fn values_of(numbers: &[u32; 7]) -> Values
-    ensures { result ≡ values_in numbers.now }
-{
-    Values {
-        depth: numbers[0],
-        sampling: numbers[1],
-        order: numbers[2],
-        range: numbers[3],
-        matrix: numbers[4],
-        width: numbers[5],
-        height: numbers[6],
+// In the order of the line.
+impl From<[u32; 7]> for Values {
+    ghost from_gives = { λ numbers v. v ≡ values_in numbers };
+
+    fn from(numbers: [u32; 7]) -> Values {
+        let [depth, sampling, order, range, matrix, width, height] = numbers;
+        Values {
+            depth,
+            sampling,
+            order,
+            range,
+            matrix,
+            width,
+            height,
+        }
     }
 }
 
-pub fn codes_of(v: Values) -> Codes
-    ensures { result ≡ codes_of v }
-{
-    Codes {
-        depth: v.depth,
-        sampling: v.sampling,
-        order: v.order,
-        range: v.range,
-        matrix: v.matrix,
-        packing: 0,
-        mode: 0,
-        kr: 0.0,
-        kb: 0.0,
+// Samples in the low bits, the mode of the source, no weights.
+impl From<Values> for Codes {
+    ghost from_gives = { λ v codes. codes ≡ codes_of v };
+
+    fn from(v: Values) -> Codes {
+        Codes {
+            depth: v.depth,
+            sampling: v.sampling,
+            order: v.order,
+            range: v.range,
+            matrix: v.matrix,
+            packing: 0,
+            mode: 0,
+            kr: 0.0,
+            kb: 0.0,
+        }
     }
 }
 
-pub fn image_of(v: Values) -> YuvPlanarImage
-    requires { v.width ≤ 64 }
-    ensures { result ≡ image_of v }
-{
-    let chroma_width = (v.width + 1) / 2;
-    YuvPlanarImage {
-        width: v.width,
-        height: v.height,
-        y_stride: v.width,
-        u_stride: chroma_width,
-        v_stride: chroma_width,
+// Rows that follow each other closely.
+impl From<Values> for Geometry {
+    ghost from_gives = { λ v image. image ≡ image_of v };
+
+    fn from(v: Values) -> Geometry {
+        let chroma_width = images::chroma_width(v.width);
+        Geometry {
+            width: v.width,
+            height: v.height,
+            y_stride: v.width,
+            u_stride: chroma_width,
+            v_stride: chroma_width,
+        }
     }
 }
 
-// The samples of luma.
-pub fn luma_count(v: Values) -> usize
-    requires { (v.width ≤ 64) × (v.height ≤ 64) }
-    ensures { result ≡ luma_count v }
-{
-    v.width as usize * v.height as usize
-}
+impl Values {
+    // The samples of luma.
+    pub fn luma_count(self) -> usize
+        requires { (self.width ≤ 64) × (self.height ≤ 64) }
+        ensures { result ≡ luma_count self }
+    {
+        self.width as usize * self.height as usize
+    }
 
-// The samples of one chroma plane.
-pub fn chroma_count(v: Values) -> usize
-    requires { (v.width ≤ 64) × (v.height ≤ 64) }
-    ensures { result ≡ chroma_count v }
-{
-    let sampling = yuv_support::sampling_of(v.sampling);
-    let height = images::chroma_height(sampling, v.height);
-    (v.width as usize + 1) / 2 * height as usize
-}
+    // The samples of one chroma plane.
+    pub fn chroma_count(self) -> usize
+        requires { (self.width ≤ 64) × (self.height ≤ 64) }
+        ensures { result ≡ chroma_count self }
+    {
+        let sampling = yuv_support::sampling_of(self.sampling);
+        let rows = images::chroma_height(sampling, self.height);
+        images::chroma_width(self.width) as usize * rows as usize
+    }
 
-// The largest sample of the element's width.
-pub fn widest_of(v: Values) -> u32
-    ensures { result ≡ widest v }
-{
-    if v.depth == 8 {
-        return 255;
+    // The largest sample of the element's width.
+    pub fn widest(self) -> u32
+        ensures { result ≡ widest self }
+    {
+        if self.depth == 8 { 255 } else { 65535 }
     }
-    65535
-}
 
-// Question 2.
-pub fn is_known(v: Values) -> bool
-    ensures { result ≡ (codes_known (among v.depth depths) (codes_of v)).holds }
-{
-    let depth_known = yuv_support::is_depth(v.depth);
-    yuv_error::is_accepted(images::check_codes(codes_of(v), depth_known))
-}
+    // Questions 1 and 2, and the settings that the codes stand for.
+    #[tactic(auto, unfolding(yuv_error::specs::Asked::asked))]
+    pub fn settings(self) -> Result<Settings, Refusal>
+        ensures { result ≡ settings_of self }
+    {
+        match images::decode::<EitherElement>(Codes::from(self)) {
+            Ok(settings) => Ok(settings),
+            Err(YuvError::UnknownSampling) => Err(Refusal::UnknownSampling),
+            Err(_) => Err(Refusal::UnknownCode),
+        }
+    }
 
-// Whether sides and matrix are those of a sheet, which question 15 asks.
-pub fn is_small(v: Values) -> bool
-    ensures { result ≡ is_small v }
-{
-    if v.width < 1 {
-        return false;
+    // Whether sides and matrix are those of a sheet, which question 15 asks.
+    pub fn is_small(self) -> bool
+        ensures { result ≡ is_small self }
+    {
+        (1..=64).contains(&self.width) && (1..=64).contains(&self.height) && self.matrix <= 5
     }
-    if 64 < v.width {
-        return false;
-    }
-    if v.height < 1 {
-        return false;
-    }
-    if 64 < v.height {
-        return false;
-    }
-    v.matrix <= 5
 }

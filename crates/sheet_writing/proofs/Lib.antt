@@ -1,1 +1,2 @@
 pub mod Write
+pub mod Digits

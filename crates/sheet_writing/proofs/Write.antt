@@ -1,16 +1,15 @@
 -- Laws of texts and of writing them: one text after the other is their join (`wrote_then`), how long each text is at most, and what a loop
--- keeps that writes texts (`Joining`).
+-- keeps that puts texts behind a text (`appended_one`) or writes them (`Joining`).
 -- Assumes nothing.
 use mathlib.Core.Path.{◌≡◌, refl, sym, ◌∙◌}
 use mathlib.Core.Bool.{Bool, true, false, cond}
-use mathlib.Core.List.{List, [], ◌∷◌, ◌++◌}
+use mathlib.Core.List.{List, [], ◌∷◌, ◌++◌, append_assoc, append-nil}
 use Prim.Native.Nat.{ℕ, zero, suc, ◌+◌, ◌*◌, ◌/◌, ◌%◌, ◌≤◌, ◌<◌}
 use native.Mathlib.Nat.{add-zero, mul-le-mul_left, mul-suc}
 use native.Mathlib.Omega.{arith}
-use borrow.Author.Tests.{le-leb, lt-leb}
 use lib.Dec.{leb}
-use lib.ListN.{length, length-append, set, take, get_or}
-use lib.Seq.{sets, take-suc}
+use lib.ListN.{length, length-append, set, take, drop, get_or}
+use lib.Seq.{sets, sets-eq, take-suc}
 use Rattle.sheet_writing.specs.Text.{joined, leading_digit, decimal_text, number_text, Wrote}
 
 -- ---- one after the other
@@ -21,6 +20,10 @@ sets_append old at (x ∷ a) b =
     let e : at + suc (length a) ≡ suc at + length a = omega arith in
     rw e (sets_append (set old at x) (suc at) a b)
 
+-- a text copied to the begin of a list
+pub copied_to : (text old : List ℕ) → length text ≤ length old → text ++ drop (length text) old ≡ sets old 0 text
+copied_to text old h = let e : 0 + length text ≡ length text = omega arith in sym (sets-eq text old 0 (omega arith) ∙ rw e refl)
+
 pub wrote_nothing : (old : List ℕ) (at : ℕ) → Wrote old at [] old at
 wrote_nothing old at = record { place = sym (add-zero at); bytes = refl }
 
@@ -29,16 +32,6 @@ wrote_then {old} {at} {a} {b} {mid} {new} {next} {last} first second = record {
   place = let l = length-append a b in omega (arith, first.place, second.place);
   bytes = second.bytes ∙ rw (first.bytes, first.place) (sets_append old at a b);
 }
-
--- a digit, or none where the number is below its power of ten
-pub wrote_digit : {power n : ℕ} {old new : List ℕ} {at next : ℕ} → Wrote old at ((48 + n / power % 10) ∷ []) new next → power ≤ n
-    → Wrote old at (leading_digit power n) new next
-unfolding leading_digit
-wrote_digit {power} {n} w h = rw (le-leb power n h) w
-
-pub wrote_no_digit : (power n : ℕ) (old : List ℕ) (at : ℕ) → n < power → Wrote old at (leading_digit power n) old at
-unfolding leading_digit
-wrote_no_digit power n old at h = rw (lt-leb power n h) (wrote_nothing old at)
 
 -- one byte more of a text that is copied
 pub wrote_one : {old : List ℕ} {at : ℕ} (text : List ℕ) {new : List ℕ} {i : ℕ} → Wrote old at (take i text) new (at + i) → i < length text
@@ -71,10 +64,7 @@ pub number_text_length : (n byte : ℕ) → length (number_text n byte) ≤ 6
 unfolding number_text
 number_text_length n byte = simp length-append (omega (arith, decimal_text_length n))
 
--- where a digit and a number end that are written
-pub digit_most : (power n : ℕ) {old new : List ℕ} {at next : ℕ} → Wrote old at (leading_digit power n) new next → next ≤ at + 1
-digit_most power n w = omega (arith, w.place, leading_digit_length power n)
-
+-- where a number ends that is written
 pub number_most : (n byte : ℕ) {old new : List ℕ} {at next : ℕ} → Wrote old at (number_text n byte) new next → next ≤ at + 6
 number_most n byte w = omega (arith, w.place, number_text_length n byte)
 
@@ -96,6 +86,23 @@ pub joined_same : (f g : ℕ → List ℕ) (n : ℕ) → ((i : ℕ) → i < n �
 unfolding joined
 joined_same f g zero h = refl
 joined_same f g (suc n) h = rw (joined_same f g n (λ i l. h i (omega arith)), h n (omega arith))
+
+-- ---- what a loop keeps that puts texts behind a text: the first n of them stand there
+
+pub appended_none : (f : ℕ → List ℕ) (old : List ℕ) → old ≡ old ++ joined f 0
+unfolding joined
+appended_none f old = sym (append-nil old)
+
+pub appended_one : (f : ℕ → List ℕ) (n : ℕ) (old : List ℕ) {mid new : List ℕ} → mid ≡ old ++ joined f n → new ≡ mid ++ f n → new ≡ old ++ joined f (n + 1)
+appended_one f n old {mid} {new} e w = w ∙ rw (e, joined_one f n) (append_assoc old (joined f n) (f n))
+
+-- the next text has room where `limit` texts of at most k bytes have
+pub appended_room : (f : ℕ → List ℕ) (k limit : ℕ) (old : List ℕ) {mid : List ℕ} {n : ℕ} → mid ≡ old ++ joined f n → n < limit
+    → ((i : ℕ) → length (f i) ≤ k) → length mid + k ≤ length old + k * limit
+appended_room f k limit old {mid} {n} e h l =
+    let m : k * suc n ≤ k * limit = mul-le-mul_left k h in
+    let a = length-append old (joined f n) in
+    rw e (omega (arith, m, mul-suc k n, joined_length f k n l))
 
 -- ---- what a loop keeps that writes texts: the first n of `limit` texts are written
 

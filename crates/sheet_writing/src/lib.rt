@@ -1,50 +1,96 @@
-// The text of a sheet's output: bytes and decimal numbers, written into a buffer.
-// Each function writes from place `at` on and answers the place after what it wrote.
+// Short texts in fixed memory: bytes and decimal numbers, one behind the other.
 #![tactic(auto)]
 
-ghost use Rattle.std.specs.Prelude.{[], ◌∷◌, ◌+◌, ◌≤◌, ◌<◌, length};
-ghost use Rattle.sheet_writing.specs.Text.{leading_digit, number_text, Wrote};
+ghost use Rattle.std.specs.Prelude.{◌≡◌, [], ◌∷◌, ◌++◌, ◌+◌, ◌≤◌, ◌<◌, List, ℕ, length, take};
+ghost use Rattle.sheet_writing.specs.Text.{decimal_text};
 
-fn put_byte(out: &mut [u8; 131072], at: usize, byte: u8) -> usize
-    requires { at < 131072 }
-    ensures { Wrote out.old at (byte ∷ []) out.new result }
-{
-    out[at] = byte;
-    at + 1
+use std::marker::Model;
+
+// A text of at most N bytes: the first `length` ones of `bytes`. The library uses no heap, so a text has a fixed room.
+#[derive(Drop)]
+pub struct Text<const N: usize> {
+    bytes: [u8; N],
+    length: usize,
 }
 
-pub fn put_bytes(out: &mut [u8; 131072], at: usize, text: &[u8]) -> usize
-    requires { at + length text.now ≤ 131072 }
-    ensures { Wrote out.old at text.now out.new result }
-{
-    let mut i: usize = 0;
-    while i < text.len() {
-        out[at + i] = text[i];
-        i += 1;
+impl<const N: usize> Model for Text<N> {
+    ghost Value = { List ℕ };
+
+    ghost view = { λ t. take t.length t.bytes };
+
+    ghost invariant = { λ t. t.length ≤ N };
+}
+
+impl<const N: usize> Text<N> {
+    // The empty text.
+    pub fn new() -> Self
+        ensures { result ≡ [] }
+    {
+        Text {
+            bytes: [0; N],
+            length: 0,
+        }
     }
-    at + i
-}
 
-// A digit that is no leading zero.
-fn put_leading_digit(out: &mut [u8; 131072], at: usize, power: u32, n: u32) -> usize
-    requires { (at < 131072) × (0 < power) }
-    ensures { Wrote out.old at (leading_digit power n) out.new result }
-{
-    if n < power {
-        return at;
+    pub fn as_bytes(&self) -> &[u8]
+        ensures bytes { result.now ≡ self.now }
+        ensures most { length self.now ≤ N }
+    {
+        &self.bytes[..self.length]
     }
-    put_byte(out, at, (48 + n / power % 10) as u8)
+
+    pub fn push(&mut self, byte: u8)
+        requires { length self.old < N }
+        ensures text { self.new ≡ self.old ++ byte ∷ [] }
+        ensures count { length self.new ≡ length self.old + 1 }
+    {
+        self.bytes[self.length] = byte;
+        self.length += 1;
+    }
+
+    pub fn push_bytes(&mut self, more: &[u8])
+        requires { length self.old + length more.now ≤ N }
+        ensures text { self.new ≡ self.old ++ more.now }
+        ensures count { length self.new ≡ length self.old + length more.now }
+    {
+        let bytes = &mut self.bytes[..];
+        self.length = put(bytes, self.length, more);
+    }
+
+    // A decimal number of at most five digits, without leading zeros.
+    pub fn push_number(&mut self, n: u32)
+        requires { length self.old + 5 ≤ N }
+        ensures text { self.new ≡ self.old ++ decimal_text n }
+        ensures most { length self.new ≤ length self.old + 5 }
+    {
+        let digits = decimal(n);
+        let bytes = &mut self.bytes[..];
+        self.length = put(bytes, self.length, digits.as_bytes());
+    }
 }
 
-// A decimal number of at most five digits, and the byte after it.
-pub fn put_number(out: &mut [u8; 131072], at: usize, n: u32, byte: u8) -> usize
-    requires { at + 6 ≤ 131072 }
-    ensures { Wrote out.old at (number_text n byte) out.new result }
+// Bytes put behind the first `at` ones of a room; the answer is how many there are then. (It takes the fields: a method of Text<N> that calls
+// another would owe that N bytes fit the memory.)
+fn put(room: &mut [u8], at: usize, more: &[u8]) -> usize
+    requires { at + length more.now ≤ length room.old }
+    ensures bytes { take result room.new ≡ take at room.old ++ more.now }
+    ensures count { result ≡ at + length more.now }
 {
-    let a = put_leading_digit(out, at, 10000, n);
-    let b = put_leading_digit(out, a, 1000, n);
-    let c = put_leading_digit(out, b, 100, n);
-    let d = put_leading_digit(out, c, 10, n);
-    let e = put_byte(out, d, (48 + n % 10) as u8);
-    put_byte(out, e, byte)
+    let end = at + more.len();
+    room[at..end].copy_from_slice(more);
+    end
+}
+
+// The decimal digits of a number, from that of 10,000 on, without leading zeros.
+fn decimal(n: u32) -> Text<5>
+    ensures { result ≡ decimal_text n }
+{
+    let mut digits: Text<5> = Text::new();
+    for power in [10000, 1000, 100, 10] {
+        if power <= n {
+            digits.push(b'0' + (n / power % 10) as u8);
+        }
+    }
+    digits.push(b'0' + (n % 10) as u8);
+    digits
 }

@@ -3,15 +3,13 @@
 // many of the 110 numbers were found and how many are missing.
 #![tactic(auto)]
 
-ghost use Rattle.std.specs.Prelude.{◌≡◌, ◌≤◌, ◌<◌};
-ghost use Rattle.stored_rows.specs.Rows.{KeepsRule, same, agreeing, found_of};
+ghost use Rattle.std.specs.Prelude.{◌≡◌, ◌<◌, IfOk};
+ghost use Rattle.stored_rows.specs.Rows.{KeepsRule, agreeing, found_of};
 
-use built_coefficients::BuiltTransform;
+use std::io;
 use yuv_support::{CbCrInverseTransform, YuvMode, YuvRange, YuvStandardMatrix};
 
-const STDOUT_FILENO: i32 = 1;
-
-// Depth, the codes of range and matrix, then y, cr, cb, g1, g2.
+// Depth, the codes of range and matrix, then y, cr, cb, g1, g2: lists of numbers, so that one lemma computes the rule over all of them.
 const ROWS: [[u32; 8]; 22] = [
     [8, 0, 0, 9539, 13075, 16525, 6660, 3209],
     [8, 1, 0, 8192, 11485, 14516, 5850, 2819],
@@ -68,112 +66,65 @@ fn line(k: usize) -> StoredRow
     }
 }
 
-// 1 for two equal numbers, else 0.
-fn same(a: u32, b: u32) -> u64
-    ensures { (result ≡ same a b) × (result ≤ 1) }
-{
-    if a == b {
-        return 1;
-    }
-    0
-}
-
 // How many of the five numbers of two rows are equal.
+#[tactic(auto, unfolding(crate::specs::Rows::agreeing))]
 fn agreeing(a: CbCrInverseTransform, b: CbCrInverseTransform) -> u64
     ensures { result ≡ agreeing a b }
 {
-    same(a.y, b.y) + same(a.cr, b.cr) + same(a.cb, b.cb) + same(a.g1, b.g1) + same(a.g2, b.g2)
+    (a.y == b.y) as u64
+        + (a.cr == b.cr) as u64
+        + (a.cb == b.cb) as u64
+        + (a.g1 == b.g1) as u64
+        + (a.g2 == b.g2) as u64
 }
 
 // How many of a stored row's numbers its setting has.
+#[tactic(auto, unfolding(crate::specs::Rows::found_in))]
 fn found(s: StoredRow) -> u64
     ensures { result ≡ found_of s }
 {
-    let range = s.range;
-    let matrix = s.matrix;
-    match built_coefficients::get_built_inverse_transform(
-        s.depth,
-        range,
-        matrix,
-        YuvMode::AsSource,
-    ) {
-        BuiltTransform::Row(row) => agreeing(s.row, row),
-        BuiltTransform::NoRow => 0,
+    let mode = YuvMode::AsSource;
+    match built_coefficients::get_built_inverse_transform(s.depth, s.range, s.matrix, mode) {
+        Some(row) => agreeing(s.row, row),
+        None => 0,
     }
 }
 
-// A number and the space after it.
-fn put(n: u64) {
-    io::print_decimal(STDOUT_FILENO, n);
-    io::write_all(STDOUT_FILENO, b" ");
-}
-
-fn put_range(range: YuvRange) {
+// The range as the line has it.
+fn range_name(range: YuvRange) -> &'static str {
     match range {
-        YuvRange::Limited => io::write_all(STDOUT_FILENO, b"limited "),
-        YuvRange::Full => io::write_all(STDOUT_FILENO, b"full "),
-    };
-}
-
-fn put_matrix(matrix: YuvStandardMatrix) {
-    match matrix {
-        YuvStandardMatrix::Bt601 => io::write_all(STDOUT_FILENO, b"Bt601 "),
-        YuvStandardMatrix::Bt709 => io::write_all(STDOUT_FILENO, b"Bt709 "),
-        YuvStandardMatrix::Bt2020 => io::write_all(STDOUT_FILENO, b"Bt2020 "),
-        YuvStandardMatrix::Smpte240 => io::write_all(STDOUT_FILENO, b"Smpte240 "),
-        YuvStandardMatrix::Bt470_6 => io::write_all(STDOUT_FILENO, b"Bt470_6 "),
-        YuvStandardMatrix::Fcc => io::write_all(STDOUT_FILENO, b"Fcc "),
-        YuvStandardMatrix::Custom(_, _) => io::write_all(STDOUT_FILENO, b"Custom "),
-    };
-}
-
-fn put_numbers(row: CbCrInverseTransform) {
-    put(row.y as u64);
-    put(row.cr as u64);
-    put(row.cb as u64);
-    put(row.g1 as u64);
-    put(row.g2 as u64);
+        YuvRange::Limited => "limited",
+        YuvRange::Full => "full",
+    }
 }
 
 // Line k; how many of its numbers were found.
-fn put_line(k: usize) -> u64
+fn put_line(rt: &impl Print, k: usize) -> io::Result<u64>
     requires { k < 22 }
-    ensures { result ≡ 5 }
+    ensures { IfOk result (λ n. n ≡ 5) }
 {
     let s = line(k);
-    let range = s.range;
-    let matrix = s.matrix;
-    put(s.depth as u64);
-    put_range(range);
-    put_matrix(matrix);
-    put_numbers(s.row);
+    let t = s.row;
     let n = found(s);
-    if n == 5 {
-        io::write_all(STDOUT_FILENO, b"found\n");
-    } else {
-        io::write_all(STDOUT_FILENO, b"missing\n");
-    }
-    n
+    let word = if n == 5 { "found" } else { "missing" };
+    print!(rt; "{} {} {:?} ", s.depth, range_name(s.range), s.matrix)?;
+    println!(rt; "{} {} {} {} {} {word}", t.y, t.cr, t.cb, t.g1, t.g2)?;
+    Ok(n)
 }
 
 // All lines; how many numbers were found.
-fn put_lines() -> u64
-    ensures { result ≡ 110 }
+fn put_lines(rt: &impl Print) -> io::Result<u64>
+    ensures { IfOk result (λ n. n ≡ 110) }
 {
-    let mut n: u64 = 0;
-    let mut k: usize = 0;
-    while k < 22 {
-        n += put_line(k);
-        k += 1;
+    let mut n = 0;
+    for k in 0..ROWS.len() {
+        n += put_line(rt, k)?;
     }
-    n
+    Ok(n)
 }
 
-fn main() {
-    io::write_all(STDOUT_FILENO, b"depth range matrix y cr cb g1 g2\n");
-    let n = put_lines();
-    put(n);
-    io::write_all(STDOUT_FILENO, b"found, ");
-    put(110 - n);
-    io::write_all(STDOUT_FILENO, b"missing\n");
+fn main(rt: HostRuntime) -> io::Result<()> {
+    println!(rt; "depth range matrix y cr cb g1 g2")?;
+    let n = put_lines(&rt)?;
+    println!(rt; "{n} found, {} missing", 110 - n)
 }

@@ -1,48 +1,21 @@
--- What the questions come to: 22 of a plane holds where 5 and 6 of it are accepted, and where all are accepted the rows lie in their planes
--- (`planes_fit`).
+-- What the questions come to: their answer is the verdict on the planes' numbers (`answer_is`), where it is `Ok` the rows lie in their planes
+-- (`fit_is`), and what is left in a plane goes by it (`after_ok`, `after_err`).
 -- Assumes nothing.
-use mathlib.Core.Path.{◌≡◌, refl, sym, ap, ◌∙◌}
-use mathlib.Core.Bool.{Bool, true, false, cond, ◌&&◌, and-eq-true_iff}
-use mathlib.Core.List.{List, [], ◌∷◌}
-use Prim.Native.Nat.{ℕ, ◌*◌}
-use borrow.Author.Tests.{leb-true, eqb-true}
-use lib.Dec.{eqb, leb}
-use lib.ListN.{length}
-use Rattle.yuv_support.specs.Questions.{Verdict, Extent, accepted, needed, destination, verdict}
+use Rattle.std.proofs.Common.{◌≡◌, ℕ, ◌*◌, true, false, refl, eqb, leb, List, length, map, Result, Ok, Err, is_ok, IfOk, sym, ap, ◌∙◌, eqb-true}
+use mathlib.Core.Bool.{and-eq-true_iff}
+use borrow.Author.Tests.{leb-true}
+use Rattle.yuv_support.specs.Questions.{Verdict, extent, needed}
 use Rattle.yuv_support.proofs.Questions.{each_holds}
-use Rattle.yuv_error.specs.declared.YuvError.{YuvError}
-use Rattle.yuv_error.specs.declared.YuvError.TheVariants.{Accepted, UnusablePlane}
-use Rattle.yuv_error.specs.Told.{told}
-use Rattle.weave_planes.specs.Woven.{Plane}
-use Rattle.weave_planes.specs.Fits.{RowsFit, PlanesFit}
+use Rattle.yuv_error.specs.declared.buffers.Buffer.{Buffer}
+use Rattle.yuv_error.specs.declared.error.YuvError.{YuvError}
+use Rattle.yuv_error.specs.Told.{answered}
+use Rattle.yuv_error.specs.Asked.{asked, giving}
+use Rattle.yuv_error.proofs.Asked.{asked_answered}
+use Rattle.yuv_error.proofs.Refused.{refused_number}
+use Rattle.sample.proofs.Numbers.{numbers_length}
+use Rattle.planes.specs.Woven.{Plane, lent}
+use Rattle.planes.specs.Fits.{RowsFit, PlanesFit}
 use Rattle.weave.specs.Weaving.{plane_usable, weave_questions, extent_of, weave_answer, after}
-
--- ---- one plane
-
-usable_is : (e : Extent) (n height : ℕ) → eqb (verdict (destination e n height)).number 0 ≡ (plane_usable e n height).holds
-unfolding verdict
-usable_is e n height = by_tests (leb (needed e.stride n height) e.length) (leb n e.stride) _ _ _ _
-  where
-    by_tests : (a b : Bool) (x x' y y' : ℕ)
-        → eqb (cond a (cond b accepted (record { number = 6; expected = x; received = x' })) (record { number = 5; expected = y; received = y' })).number 0 ≡ (a && b)
-    by_tests true true x x' y y' = refl
-    by_tests true false x x' y y' = refl
-    by_tests false b x x' y y' = refl
-
--- `says` is what `is_accepted` said of the answer to 5 and 6
-module _ (asked : YuvError) (says : Bool) (e : Extent) (n height : ℕ) (is : told asked ≡ verdict (destination e n height)) (s : says ≡ eqb (told asked).number 0) where
-  plane_holds : (plane_usable e n height).holds ≡ says
-  plane_holds = sym (s ∙ rw is (usable_is e n height))
-
-  pub plane_accepted : says ≡ true → told Accepted ≡ verdict (plane_usable e n height ∷ [])
-  unfolding told verdict
-  plane_accepted t = let h : (plane_usable e n height).holds ≡ true = plane_holds ∙ t in rw h
-
-  pub plane_refused : says ≡ false → told UnusablePlane ≡ verdict (plane_usable e n height ∷ [])
-  unfolding told verdict
-  plane_refused f = let h : (plane_usable e n height).holds ≡ false = plane_holds ∙ f in rw h
-
--- ---- all of them
 
 rows_fit : (p : Plane) (n height : ℕ) → (plane_usable (extent_of p) n height).holds ≡ true → RowsFit n height p
 rows_fit p n height h =
@@ -61,16 +34,45 @@ planes_fit width height u v uv e =
       for_uv = rows_fit uv (2 * width) height (h 4);
     }
 
--- `says` is what `is_accepted` said of the answer, whose verdict is v
-module _ (answer : YuvError) (says : Bool) (v : Verdict) (is : told answer ≡ v) (s : says ≡ eqb (told answer).number 0) where
-  number_is : eqb v.number 0 ≡ says
-  number_is = sym (s ∙ ap (λ (w : Verdict). eqb w.number 0) is)
+-- ---- an answer, and its number
 
-  pub accepted_0 : says ≡ true → v.number ≡ 0
-  accepted_0 t = eqb-true v.number 0 (number_is ∙ t)
+ok_number : (r : Result (Unit {0}) YuvError) → eqb (answered r).number 0 ≡ is_ok r
+ok_number (Ok x) = refl
+ok_number (Err e) = refused_number e
 
-  pub after_accepted : says ≡ true → (written old : List ℕ) → written ≡ after v written old
-  after_accepted t written old = rw (number_is ∙ t)
+answered_giving : (r : Result (Unit {0}) YuvError) → answered (giving r (tt {0})) ≡ answered r
+answered_giving (Ok x) = refl
+answered_giving (Err e) = refl
 
-  pub after_refused : says ≡ false → (written old : List ℕ) → old ≡ after v written old
-  after_refused f written old = rw (number_is ∙ f)
+if_ok : (r : Result (Unit {0}) YuvError) {P : Type 0} → (is_ok r ≡ true → P) → IfOk r (λ x. P)
+if_ok (Ok x) h = h refl
+if_ok (Err e) h = tt
+
+-- ---- planes of samples, as the questions see them
+
+module _ {X : Type 0} {number : X → ℕ} {numbers : List X → List ℕ} (are : (xs : List X) → numbers xs ≡ map number xs) where
+  -- r is what the questions of the buffers came to
+  module _ (width height : ℕ) (us vs uvs : List X) (u_stride v_stride uv_stride : ℕ) {r : Result (Unit {0}) YuvError} {u v uv : Buffer}
+      (u_is : u ≡ record { length = length us; stride = u_stride }) (v_is : v ≡ record { length = length vs; stride = v_stride })
+      (uv_is : uv ≡ record { length = length uvs; stride = uv_stride })
+      (is : r ≡ asked (weave_questions width height (extent u.length u.stride) (extent v.length v.stride) (extent uv.length uv.stride))) where
+    pub answer_is : answered r ≡ weave_answer width height (lent (numbers us) u_stride) (lent (numbers vs) v_stride) (lent (numbers uvs) uv_stride)
+    unfolding weave_questions
+    answer_is =
+        rw (numbers_length are us, numbers_length are vs, numbers_length are uvs)
+        (ap answered (rw (u_is, v_is, uv_is) at is) ∙ sym (answered_giving _) ∙ asked_answered (tt {0}) _ (refl, (refl, (refl, (refl, (refl, tt))))))
+
+    pub fit_is : IfOk r (λ x. PlanesFit width height (lent (numbers us) u_stride) (lent (numbers vs) v_stride) (lent (numbers uvs) uv_stride))
+    fit_is = if_ok r (λ t. planes_fit _ _ _ _ _ (eqb-true _ _ (ap (λ (w : Verdict). eqb w.number 0) (sym answer_is) ∙ ok_number r ∙ t)))
+
+-- ---- what is left in a plane, r being the answer and v its verdict
+
+module _ (r : Result (Unit {0}) YuvError) (v : Verdict) (is : answered r ≡ v) where
+  number_is : eqb v.number 0 ≡ is_ok r
+  number_is = ap (λ (w : Verdict). eqb w.number 0) (sym is) ∙ ok_number r
+
+  pub after_ok : is_ok r ≡ true → (written old : List ℕ) → written ≡ after v written old
+  after_ok t written old = rw (number_is ∙ t) refl
+
+  pub after_err : is_ok r ≡ false → (written old : List ℕ) → old ≡ after v written old
+  after_err f written old = rw (number_is ∙ f) refl

@@ -14,9 +14,9 @@ use Rattle.yuv_support.specs.Picture.{painted}
 use Rattle.yuv_support.specs.Questions.{Verdict}
 use Rattle.yuv_support.proofs.Overlay.{below_or_not}
 use Rattle.yuv_support.proofs.Rows.{Outside, painted_length, row_fits, cell_at, cell_kept}
-use Rattle.weave_planes.specs.Woven.{Plane, lent, element_at, alternating, woven_at, woven, of_u, of_v, unwoven_at, unwoven}
-use Rattle.weave_planes.specs.Fits.{RowsFit}
-use Rattle.weave_planes.proofs.Rows.{u_first, v_second}
+use Rattle.planes.specs.Woven.{Plane, lent, element_at, alternating, woven_at, woven, of_u, of_v, unwoven_at, unwoven}
+use Rattle.planes.specs.Fits.{RowsFit}
+use Rattle.planes.proofs.WovenRows.{u_first, v_second}
 use Rattle.weave.specs.Weaving.{weave_answer, after, after_weaving, u_after_unweaving, v_after_unweaving}
 use Rattle.weave.specs.Restored.{PaddingKept, UnweavingRestores, WeavingRestores, PaddingUntouched}
 use Rattle.weave.proofs.Asked.{planes_fit}

@@ -2,7 +2,7 @@
 -- untouched", by the definitions that the entries' promises cite.
 -- Definitions only.
 use Rattle.std.specs.Prelude.{◌≡◌, List, ℕ, ◌+◌, ◌*◌, ◌<◌, length, get_or}
-use Rattle.weave_planes.specs.Woven.{Plane, lent, element_at}
+use Rattle.planes.specs.Woven.{Plane, lent, element_at}
 use Rattle.weave.specs.Weaving.{weave_answer, after_weaving, u_after_unweaving, v_after_unweaving}
 
 -- two planes have the same samples: the first n elements of each of `height` rows, each plane by its own stride

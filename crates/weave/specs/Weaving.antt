@@ -2,7 +2,7 @@
 -- Definitions only.
 use Rattle.std.specs.Prelude.{ℕ, ◌*◌, cond, ◌&&◌, List, [], ◌∷◌, ◌++◌, eqb, leb, length}
 use Rattle.yuv_support.specs.Questions.{Question, Verdict, Extent, extent, ask, needed, sides, verdict}
-use Rattle.weave_planes.specs.Woven.{Plane, woven, of_u, of_v, unwoven}
+use Rattle.planes.specs.Woven.{Plane, woven, of_u, of_v, unwoven}
 
 -- 22: a plane is long enough by the form of 5, n being its own row, and its stride is at least its row
 abbrev pub plane_usable : Extent → ℕ → ℕ → Question

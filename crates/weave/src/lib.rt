@@ -1,177 +1,138 @@
-// Chroma woven together and taken apart, at both element widths, between planes of any strides. Nothing is asked of the caller.
-// The sides are those of the chroma plane. A call that a question refuses changes no plane.
+// Chroma woven together and taken apart, between planes of any strides, of either element. Nothing
+// is asked of the caller. The sides are those of the chroma plane. A call that a question refuses
+// changes no plane.
 #![tactic(auto)]
 
-ghost use Rattle.std.specs.Prelude.{◌≡◌, ◌∷◌, [], ◌≤◌};
-ghost use Rattle.yuv_support.specs.Questions.{verdict, extent};
-ghost use Rattle.yuv_error.specs.Told.{told};
-ghost use Rattle.weave_planes.specs.Woven.{lent};
+ghost use Rattle.std.specs.Prelude.{◌≡◌, ◌∷◌, [], ◌≤◌, IfOk};
+ghost use Rattle.yuv_support.specs.Questions.{extent};
+ghost use Rattle.yuv_error.specs.Told.{answered};
+ghost use Rattle.yuv_error.specs.Asked.{asked};
+ghost use Rattle.planes.specs.Fits.{PlanesFit};
+ghost use Rattle.planes.specs.Lent.{plane_of, plane_mut_of};
 ghost use Rattle.weave.specs.Weaving.{plane_usable, weave_questions, weave_answer, after_weaving, u_after_unweaving, v_after_unweaving};
 
-use yuv_error::YuvError;
+use planes::weave::{unweave_plane, weave_plane};
+use sample::Sample;
+use sample::plane::{Plane, PlaneMut, Size};
+use yuv_error::buffers::{ask, buffer_of, check_rgba_destination, check_sides};
+use yuv_error::{Buffer, YuvError};
 
-// Question 22 of a plane of `length` elements, n being its row: 5 and 6 asked of it, and answered by one number.
-fn check_plane(length: u64, stride: u32, n: u32, height: u32) -> YuvError
-    requires { 1 ≤ height }
-    ensures { told result ≡ verdict (plane_usable (extent length stride) n height ∷ []) }
+// Question 22 of a plane, n being its row: 5 and 6 asked of it, and answered by one error.
+#[tactic(auto, unfolding(yuv_error::specs::Asked::asked))]
+fn check_plane(plane: Buffer, n: u32, height: u32) -> Result<(), YuvError>
+    ensures { result ≡ asked (plane_usable (extent plane.length plane.stride) n height ∷ []) }
 {
-    let asked = yuv_error::check_rgba_destination(length, stride, n, height);
-    if yuv_error::is_accepted(asked) {
-        return YuvError::Accepted;
-    }
-    YuvError::UnusablePlane
+    let usable = check_rgba_destination(plane, n, height);
+    ask(usable.is_ok(), YuvError::UnusablePlane)
 }
 
 // Questions 3 and 4, then 22 of U, V and the woven plane.
-fn check_planes(
-    width: u32,
-    height: u32,
-    u_length: u64,
-    u_stride: u32,
-    v_length: u64,
-    v_stride: u32,
-    uv_length: u64,
-    uv_stride: u32,
-) -> YuvError
-    ensures { told result ≡ verdict (weave_questions width height (extent u_length u_stride) (extent v_length v_stride) (extent uv_length uv_stride)) }
+#[tactic(auto, unfolding(yuv_error::specs::Asked::asked, crate::specs::Weaving::weave_questions))]
+fn check_buffers(size: Size, u: Buffer, v: Buffer, uv: Buffer) -> Result<(), YuvError>
+    ensures { let of_u = extent u.length u.stride in
+        let of_v = extent v.length v.stride in
+        let of_uv = extent uv.length uv.stride in
+        result ≡ asked (weave_questions size.width size.height of_u of_v of_uv) }
 {
-    let sides = yuv_error::check_sides(width, height);
-    if !yuv_error::is_accepted(sides) {
-        return sides;
-    }
-    let u = check_plane(u_length, u_stride, width, height);
-    if !yuv_error::is_accepted(u) {
-        return u;
-    }
-    let v = check_plane(v_length, v_stride, width, height);
-    if !yuv_error::is_accepted(v) {
-        return v;
-    }
-    check_plane(uv_length, uv_stride, 2 * width, height)
+    check_sides(size.width, size.height)?;
+    check_plane(u, size.width, size.height)?;
+    check_plane(v, size.width, size.height)?;
+    check_plane(uv, 2 * size.width, size.height)
+}
+
+// The same, by the numbers of the planes' samples.
+fn check_planes<S: Sample>(
+    size: Size,
+    u: Plane<'_, S>,
+    v: Plane<'_, S>,
+    uv: Plane<'_, S>,
+) -> Result<(), YuvError>
+    ensures answer { answered result
+        ≡ weave_answer size.width size.height
+        (plane_of S.numbers u.entry) (plane_of S.numbers v.entry) (plane_of S.numbers uv.entry) }
+    ensures fit { IfOk result (λ _. PlanesFit size.width size.height
+        (plane_of S.numbers u.entry) (plane_of S.numbers v.entry) (plane_of S.numbers uv.entry)) }
+{
+    check_buffers(
+        size,
+        buffer_of(u.elements, u.stride),
+        buffer_of(v.elements, v.stride),
+        buffer_of(uv.elements, uv.stride),
+    )
 }
 
 // U and V, woven into `uv`: in each row U and V samples alternating, U first.
-pub fn weave8(
-    width: u32,
-    height: u32,
-    u: &[u8],
-    u_stride: u32,
-    v: &[u8],
-    v_stride: u32,
-    uv: &mut [u8],
-    uv_stride: u32,
-) -> YuvError
-    ensures answer { told result ≡ weave_answer width height (lent u.now u_stride) (lent v.now v_stride) (lent uv.old uv_stride) }
-    ensures woven { uv.new ≡ after_weaving width height (lent u.now u_stride) (lent v.now v_stride) (lent uv.old uv_stride) }
+pub fn weave<S: Sample>(
+    uv: PlaneMut<'_, S>,
+    u: Plane<'_, S>,
+    v: Plane<'_, S>,
+    size: Size,
+) -> Result<(), YuvError>
+    ensures answer { answered result
+        ≡ weave_answer size.width size.height
+        (plane_of S.numbers u.entry)
+        (plane_of S.numbers v.entry)
+        (plane_mut_of S.numbers uv.entry) }
+    ensures woven { S.numbers uv.exit.0.now
+        ≡ after_weaving size.width size.height
+        (plane_of S.numbers u.entry)
+        (plane_of S.numbers v.entry)
+        (plane_mut_of S.numbers uv.entry) }
 {
-    let answer = check_planes(
-        width,
-        height,
-        u.len() as u64,
-        u_stride,
-        v.len() as u64,
-        v_stride,
-        uv.len() as u64,
-        uv_stride,
-    );
-    if !yuv_error::is_accepted(answer) {
-        return answer;
-    }
-    weave_planes::weave_plane8(uv, uv_stride, u, u_stride, v, v_stride, width, height);
-    answer
-}
-
-// `weave8` at u16.
-pub fn weave16(
-    width: u32,
-    height: u32,
-    u: &[u16],
-    u_stride: u32,
-    v: &[u16],
-    v_stride: u32,
-    uv: &mut [u16],
-    uv_stride: u32,
-) -> YuvError
-    ensures answer { told result ≡ weave_answer width height (lent u.now u_stride) (lent v.now v_stride) (lent uv.old uv_stride) }
-    ensures woven { uv.new ≡ after_weaving width height (lent u.now u_stride) (lent v.now v_stride) (lent uv.old uv_stride) }
-{
-    let answer = check_planes(
-        width,
-        height,
-        u.len() as u64,
-        u_stride,
-        v.len() as u64,
-        v_stride,
-        uv.len() as u64,
-        uv_stride,
-    );
-    if !yuv_error::is_accepted(answer) {
-        return answer;
-    }
-    weave_planes::weave_plane16(uv, uv_stride, u, u_stride, v, v_stride, width, height);
-    answer
+    let PlaneMut { elements, stride } = uv;
+    check_planes(size, u, v, Plane { elements, stride })?;
+    weave_plane(PlaneMut { elements, stride }, u, v, size);
+    Ok(())
 }
 
 // The samples of a woven plane, taken apart into `u` and `v`.
-pub fn unweave8(
-    width: u32,
-    height: u32,
-    uv: &[u8],
-    uv_stride: u32,
-    u: &mut [u8],
-    u_stride: u32,
-    v: &mut [u8],
-    v_stride: u32,
-) -> YuvError
-    ensures answer { told result ≡ weave_answer width height (lent u.old u_stride) (lent v.old v_stride) (lent uv.now uv_stride) }
-    ensures u_plane { u.new ≡ u_after_unweaving width height (lent u.old u_stride) (lent v.old v_stride) (lent uv.now uv_stride) }
-    ensures v_plane { v.new ≡ v_after_unweaving width height (lent u.old u_stride) (lent v.old v_stride) (lent uv.now uv_stride) }
+pub fn unweave<S: Sample>(
+    uv: Plane<'_, S>,
+    u: PlaneMut<'_, S>,
+    v: PlaneMut<'_, S>,
+    size: Size,
+) -> Result<(), YuvError>
+    ensures answer { answered result
+        ≡ weave_answer size.width size.height
+        (plane_mut_of S.numbers u.entry)
+        (plane_mut_of S.numbers v.entry)
+        (plane_of S.numbers uv.entry) }
+    ensures u_plane { S.numbers u.exit.0.now
+        ≡ u_after_unweaving size.width size.height
+        (plane_mut_of S.numbers u.entry)
+        (plane_mut_of S.numbers v.entry)
+        (plane_of S.numbers uv.entry) }
+    ensures v_plane { S.numbers v.exit.0.now
+        ≡ v_after_unweaving size.width size.height
+        (plane_mut_of S.numbers u.entry)
+        (plane_mut_of S.numbers v.entry)
+        (plane_of S.numbers uv.entry) }
 {
-    let answer = check_planes(
-        width,
-        height,
-        u.len() as u64,
-        u_stride,
-        v.len() as u64,
-        v_stride,
-        uv.len() as u64,
-        uv_stride,
-    );
-    if !yuv_error::is_accepted(answer) {
-        return answer;
-    }
-    weave_planes::unweave_plane8(uv, uv_stride, u, u_stride, v, v_stride, width, height);
-    answer
-}
-
-// `unweave8` at u16.
-pub fn unweave16(
-    width: u32,
-    height: u32,
-    uv: &[u16],
-    uv_stride: u32,
-    u: &mut [u16],
-    u_stride: u32,
-    v: &mut [u16],
-    v_stride: u32,
-) -> YuvError
-    ensures answer { told result ≡ weave_answer width height (lent u.old u_stride) (lent v.old v_stride) (lent uv.now uv_stride) }
-    ensures u_plane { u.new ≡ u_after_unweaving width height (lent u.old u_stride) (lent v.old v_stride) (lent uv.now uv_stride) }
-    ensures v_plane { v.new ≡ v_after_unweaving width height (lent u.old u_stride) (lent v.old v_stride) (lent uv.now uv_stride) }
-{
-    let answer = check_planes(
-        width,
-        height,
-        u.len() as u64,
-        u_stride,
-        v.len() as u64,
-        v_stride,
-        uv.len() as u64,
-        uv_stride,
-    );
-    if !yuv_error::is_accepted(answer) {
-        return answer;
-    }
-    weave_planes::unweave_plane16(uv, uv_stride, u, u_stride, v, v_stride, width, height);
-    answer
+    let PlaneMut {
+        elements: us,
+        stride: u_stride,
+    } = u;
+    let PlaneMut {
+        elements: vs,
+        stride: v_stride,
+    } = v;
+    let u_before = Plane {
+        elements: us,
+        stride: u_stride,
+    };
+    let v_before = Plane {
+        elements: vs,
+        stride: v_stride,
+    };
+    check_planes(size, u_before, v_before, uv)?;
+    let u = PlaneMut {
+        elements: us,
+        stride: u_stride,
+    };
+    let v = PlaneMut {
+        elements: vs,
+        stride: v_stride,
+    };
+    unweave_plane(uv, u, v, size);
+    Ok(())
 }

@@ -1,37 +1,67 @@
--- What the questions of a written stream come to. 1 to 4, accepted, bound the sides (`sides_bounded`); the output is left, and the bytes
--- written are told, as the verdict says, be it a header's or a frame's.
+-- What the questions of a written stream come to. The output is left, and the bytes written are told, as the verdict says, be it a header's or
+-- a frame's.
 -- Assumes nothing.
-use mathlib.Core.Path.{◌≡◌, refl, sym, ◌∙◌}
-use mathlib.Core.Bool.{Bool, true, false}
-use mathlib.Core.List.{List, [], ◌∷◌}
+use mathlib.Core.Path.{◌≡◌, refl, sym, ap, ◌∙◌}
+use mathlib.Core.List.{List}
 use Prim.Native.Nat.{ℕ}
-use borrow.Author.Tests.{eqb-true}
-use lib.Dec.{eqb}
-use lib.Seq.{sets}
-use Rattle.yuv_support.specs.Questions.{Verdict, ask, verdict, sampling_known, sides}
-use Rattle.yuv_support.proofs.Questions.{both_accepted}
-use Rattle.yuv_error.specs.declared.YuvError.{YuvError}
-use Rattle.yuv_error.specs.Told.{told}
-use Rattle.images.proofs.Held.{Sides, sides_held}
-use Rattle.y4m.specs.Writing.{told_written, output_after}
-use Rattle.y4m.specs.Inner.{format_questions}
+use Rattle.std.specs.Prelude.{Result, Ok, Err}
+use Rattle.yuv_support.specs.declared.Geometry.{Geometry}
+use Rattle.yuv_support.specs.Questions.{Verdict}
+use Rattle.yuv_error.specs.declared.error.YuvError.{YuvError}
+use Rattle.yuv_error.specs.Told.{answered}
+use Rattle.yuv_error.specs.Asked.{asked, giving}
+use Rattle.yuv_error.proofs.Asked.{asked_answered}
+use Rattle.yuv_error.proofs.Refused.{refused_number}
+use Rattle.images.specs.declared.Lengths.{Lengths}
+use Rattle.y4m_frames.specs.Stream.{depths_of}
+use Rattle.y4m.specs.Writing.{told_written, output_after, header_asked, write_header_answer, frame_asked, write_frame_answer}
+use Rattle.y4m.specs.Inner.{written_by, output_by, OutputFits}
+use Rattle.y4m.proofs.WrittenBytes.{frame_accepted}
 
-pub sides_bounded : (sampling : ℕ) (depth_known : Bool) (width height : ℕ) → (verdict (format_questions sampling depth_known width height)).number ≡ 0
-    → Sides width height
-sides_bounded sampling depth_known width height a =
-    sides_held width height (both_accepted (sampling_known sampling ∷ ask 2 depth_known ∷ []) (sides width height) refl a).1
+-- ---- an answer and its verdict
 
--- `accepted` is what `is_accepted` said of the answer, whose verdict is v
-module _ (answer : YuvError) (accepted : Bool) (v : Verdict) (is : told answer ≡ v) (says : accepted ≡ eqb (told answer).number 0) where
-  pub verdict_accepted : accepted ≡ true → v.number ≡ 0
-  verdict_accepted a = eqb-true v.number 0 (rw is at (sym says ∙ a))
+module _ (r : Result (Unit {0}) YuvError) (n : ℕ) (v : Verdict) (is : answered (giving r n) ≡ v) where
+  pub written_result : written_by (giving r n) ≡ told_written v n
+  written_result = by_answer r is
+    where
+      by_answer : (r : Result (Unit {0}) YuvError) → answered (giving r n) ≡ v → written_by (giving r n) ≡ told_written v n
+      by_answer (Ok u) e = rw (← e) refl
+      by_answer (Err f) e = rw (← e, refused_number f) refl
 
-  pub output_refused : accepted ≡ false → (text out : List ℕ) → out ≡ output_after v text out
-  output_refused f text out = let t : eqb v.number 0 ≡ false = rw is at (sym says ∙ f) in rw t
+  pub output_result : (text out : List ℕ) → output_by (giving r n) text out ≡ output_after v text out
+  output_result text out = by_answer r is
+    where
+      by_answer : (r : Result (Unit {0}) YuvError) → answered (giving r n) ≡ v → output_by (giving r n) text out ≡ output_after v text out
+      by_answer (Ok u) e = rw (← e) refl
+      by_answer (Err f) e = rw (← e, refused_number f) refl
 
-  pub output_accepted : accepted ≡ true → (text out : List ℕ) → sets out 0 text ≡ output_after v text out
-  output_accepted a text out = let t : eqb v.number 0 ≡ true = rw is at (sym says ∙ a) in rw t
+-- the count of an answer
+pub refused_count : (r : Result (Unit {0}) YuvError) (n : ℕ) {e : YuvError} → r ≡ Err e → Err e ≡ giving r n
+refused_count r n h = rw h refl
 
-  -- on a refusal the count does not matter
-  pub told_refused : accepted ≡ false → (n : ℕ) → told_written (told answer) 0 ≡ told_written v n
-  told_refused f n = let t : eqb v.number 0 ≡ false = rw is at (sym says ∙ f) in rw (is, t)
+pub accepted_count : (r : Result (Unit {0}) YuvError) (n : ℕ) {u : Unit {0}} → r ≡ Ok u → Ok n ≡ giving r n
+accepted_count r n h = rw h refl
+
+-- ---- a header's and a frame's
+
+pub header_answered : (sampling depth width height out_length n : ℕ)
+    → answered (giving (asked (header_asked sampling depth width height out_length)) n) ≡ write_header_answer sampling depth width height out_length
+unfolding write_header_answer
+header_answered sampling depth width height out_length n =
+    asked_answered n (header_asked sampling depth width height out_length) (refl, (refl, (refl, (refl, (refl, tt)))))
+
+pub frame_answered : (known : List ℕ) (e sampling depth : ℕ) (i : Geometry) (l : Lengths) (out_length n : ℕ) → known ≡ depths_of e
+    → answered (giving (asked (frame_asked known e sampling depth i l out_length)) n) ≡ write_frame_answer e sampling depth i l out_length
+unfolding write_frame_answer
+frame_answered known e sampling depth i l out_length n is =
+    asked_answered n (frame_asked known e sampling depth i l out_length)
+    (refl, (refl, (refl, (refl, (refl, (refl, (refl, (refl, (refl, (refl, (refl, tt)))))))))))
+    ∙ rw is
+
+-- a frame whose questions all hold may be written
+pub frame_fits : (known : List ℕ) (e sampling depth : ℕ) (i : Geometry) (l : Lengths) (out_length : ℕ) → known ≡ depths_of e
+    → asked (frame_asked known e sampling depth i l out_length) ≡ Ok tt → OutputFits e sampling i l out_length
+frame_fits known e sampling depth i l out_length is all =
+    let none : ℕ = 0 in
+    let answer = frame_answered known e sampling depth i l out_length none is in
+    frame_accepted e sampling depth i l out_length (ap (λ (v : Verdict). v.number) (sym answer ∙ ap (λ (r : Result (Unit {0}) YuvError). answered (giving r none)) all))

@@ -4,12 +4,12 @@
 use mathlib.Core.Path.{◌≡◌, refl, sym, ap, ◌∙◌}
 use mathlib.Core.Bool.{true, false}
 use mathlib.Core.List.{List, ◌++◌, append_assoc}
-use Prim.Native.Nat.{ℕ, ◌+◌, ◌*◌, ◌≤◌}
+use Prim.Native.Nat.{ℕ, ◌+◌, ◌*◌, ◌≤◌, ◌<◌}
 use native.Mathlib.Omega.{arith}
 use borrow.Author.Tests.{le-leb, eq-eqb, ne_eqb}
 use lib.Dec.{T, leb}
 use lib.ListN.{length, get_or, length-append}
-use Rattle.yuv_support.specs.declared.YuvPlanarImage.{YuvPlanarImage}
+use Rattle.yuv_support.specs.declared.Geometry.{Geometry}
 use Rattle.yuv_support.specs.Settings.{among, sampling_of}
 use Rattle.yuv_support.specs.Blend.{chroma_width, chroma_height}
 use Rattle.yuv_support.specs.Picture.{painted}
@@ -21,10 +21,9 @@ use Rattle.y4m_text.specs.Write.{frame_line}
 use Rattle.y4m_lines.specs.Lines.{past_line}
 use Rattle.y4m_lines.specs.Header.{is_frame_line}
 use Rattle.y4m_lines.proofs.WrittenHeader.{HeaderFound, frame_line_found}
-use Rattle.y4m_planes.specs.declared.Element.{Element}
-use Rattle.y4m_planes.specs.Planes.{plane_bytes, plane_read}
-use Rattle.y4m_planes.proofs.Planes.{plane_bytes_length}
-use Rattle.y4m_planes.proofs.ReadBack.{plane_read_back}
+use Rattle.planes.specs.Stream.{plane_bytes, plane_read}
+use Rattle.planes.proofs.StreamPlanes.{plane_bytes_length}
+use Rattle.planes.proofs.ReadBack.{plane_read_back}
 use Rattle.y4m_frames.specs.declared.Strides.{Strides}
 use Rattle.y4m_frames.specs.Stream.{depths_of, is_known, sides_known, frame_begin, ends_at, is_place, u_begin, v_begin, frame_end, samples_begin, past_frame}
 use Rattle.y4m_frames.specs.Questions.{lengths_of, lent_image, frame_questions, frame_answer, is_read}
@@ -35,19 +34,19 @@ use Rattle.y4m.specs.RoundTrip.{FrameCall, call_image, call_lengths, with_sample
 use Rattle.y4m.proofs.WrittenBytes.{HeaderAccepted, frame_text_length}
 
 -- a plane that was written after some bytes is read from there
-plane_found : (e : Element) (s : List ℕ) (columns rows : ℕ) (plane : List ℕ) (stride : ℕ) → needed stride columns rows ≤ length plane
+plane_found : (e : ℕ) → 0 < e → (s : List ℕ) (columns rows : ℕ) (plane : List ℕ) (stride : ℕ) → needed stride columns rows ≤ length plane
     → (first rest : List ℕ) → s ≡ first ++ (plane_bytes e stride columns rows plane ++ rest) → (from : ℕ) → from ≡ length first
     → (to_stride : ℕ) (old : List ℕ)
     → plane_read e s from columns rows to_stride old ≡ painted (λ r x. get_or plane (stride * r + x) 0) to_stride columns 0 rows old
-plane_found e s columns rows plane stride long first rest split from begin to_stride old =
-    rw (split, begin) (plane_read_back e stride columns rows plane long first rest to_stride old)
+plane_found e some s columns rows plane stride long first rest split from begin to_stride old =
+    rw (split, begin) (plane_read_back e some stride columns rows plane long first rest to_stride old)
 
 sides_known_lem : (sampling depth width height n : ℕ) → HeaderAccepted sampling depth width height n → sides_known width height ≡ true
 unfolding verdict
 sides_known_lem sampling depth width height n h =
     rw (le-leb 1 width h.bounded.width_least, le-leb 1 height h.bounded.height_least, le-leb width 16384 h.bounded.width_most, le-leb height 16384 h.bounded.height_most)
 
-module _ (e : Element) (sampling depth width height : ℕ) (out : List ℕ) (s : List ℕ) (h : HeaderFound sampling depth width height s)
+module _ (e : ℕ) (some : 0 < e) (sampling depth width height : ℕ) (out : List ℕ) (s : List ℕ) (h : HeaderFound sampling depth width height s)
     (known : T (among depth (depths_of e))) (a : HeaderAccepted sampling depth width height (length out)) where
   is_known_lem : is_known (depths_of e) s ≡ true
   unfolding is_known
@@ -90,7 +89,7 @@ module _ (e : Element) (sampling depth width height : ℕ) (out : List ℕ) (s :
   -- ---- at a frame that was written
 
   module _ (c : FrameCall) (before after : List ℕ) where
-    abbrev image : YuvPlanarImage
+    abbrev image : Geometry
     image = call_image e sampling depth width height out c
 
     abbrev columns : ℕ
@@ -186,7 +185,7 @@ module _ (e : Element) (sampling depth width height : ℕ) (out : List ℕ) (s :
           unfolding y_after
           y_found =
               rw (read, h.width_is, h.height_is)
-              (plane_found e s width height c.y c.y_stride f.y_length (before ++ frame_line) (u_bytes ++ (v_bytes ++ after)) before_y
+              (plane_found e some s width height c.y c.y_stride f.y_length (before ++ frame_line) (u_bytes ++ (v_bytes ++ after)) before_y
               (samples_begin s place) y_begin t.y y)
 
           u_found : u_after e s place t lent u
@@ -194,7 +193,7 @@ module _ (e : Element) (sampling depth width height : ℕ) (out : List ℕ) (s :
           unfolding u_after
           u_found =
               rw (read, h.width_is, h.height_is, h.format_is)
-              (plane_found e s columns rows c.u c.u_stride f.u_length
+              (plane_found e some s columns rows c.u c.u_stride f.u_length
               (before ++ frame_line ++ y_bytes) (v_bytes ++ after) before_u (u_begin e (samples_begin s place) width height) u_begin_lem t.u u)
 
           v_found : v_after e s place t lent v
@@ -202,7 +201,7 @@ module _ (e : Element) (sampling depth width height : ℕ) (out : List ℕ) (s :
           unfolding v_after
           v_found =
               rw (read, h.width_is, h.height_is, h.format_is)
-              (plane_found e s columns rows c.v c.v_stride f.v_length
+              (plane_found e some s columns rows c.v c.v_stride f.v_length
               (before ++ frame_line ++ y_bytes ++ u_bytes) after before_v (v_begin e (samples_begin s place) sampling width height) v_begin_lem t.v v)
 
         pub frame_found : FoundAgain e sampling depth width height out s c (length before + length text) place t y u v

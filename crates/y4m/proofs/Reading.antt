@@ -1,136 +1,194 @@
--- From what was judged to what a reading call answers and leaves, at either element width.
+-- From what was judged to what a reading call answers and leaves, with samples of any width.
 -- Assumes nothing.
-use mathlib.Core.Path.{◌≡◌, refl, sym, ◌∙◌}
-use mathlib.Core.Bool.{Bool, true, false, cond, ◌&&◌, and-eq-true_iff}
+use mathlib.Core.Path.{◌≡◌, refl, sym, ap, ◌∙◌}
+use mathlib.Core.Bool.{Bool, true, false, cond, ◌&&◌}
 use mathlib.Core.List.{List, ◌∷◌}
 use Prim.Native.Nat.{ℕ, ◌≤◌}
 use native.Mathlib.Omega.{arith}
-use borrow.Author.Tests.{leb-true, eqb-true}
+use borrow.Author.Tests.{leb-true}
 use lib.Dec.{eqb}
 use lib.ListN.{length}
+use Rattle.std.specs.Prelude.{Some, None, Result, Ok, Err}
 use Rattle.yuv_support.specs.Settings.{sampling_of, depths}
 use Rattle.yuv_support.specs.Blend.{chroma_width, chroma_height}
-use Rattle.yuv_support.specs.Questions.{verdict, ask}
+use Rattle.yuv_support.specs.Questions.{Verdict, accepted, verdict, ask}
 use Rattle.yuv_support.proofs.Questions.{question_at, each_holds}
-use Rattle.yuv_error.specs.declared.YuvError.TheVariants.{Accepted, MalformedStream, UnknownStream}
-use Rattle.yuv_error.specs.Told.{told}
+use Rattle.yuv_error.specs.declared.error.YuvError.{YuvError}
+use Rattle.yuv_error.specs.declared.error.YuvError.TheVariants.{MalformedStream, UnknownStream}
+use Rattle.yuv_error.specs.Told.{told, as_told, answered}
+use Rattle.yuv_error.specs.Asked.{asked, giving}
+use Rattle.yuv_error.proofs.Refused.{refused_number}
 use Rattle.images.specs.declared.Lengths.{Lengths}
 use Rattle.images.specs.Request.{constraints}
 use Rattle.y4m_lines.specs.declared.Header.{Header}
 use Rattle.y4m_lines.specs.Header.{is_header, width_of, height_of, format_in}
-use Rattle.y4m_planes.specs.declared.Element.{Element}
-use Rattle.y4m_planes.specs.Planes.{plane_read}
+use Rattle.planes.specs.Stream.{plane_read}
 use Rattle.y4m_frames.specs.declared.Strides.{Strides}
-use Rattle.y4m_frames.specs.declared.Judged.{Judged}
+use Rattle.y4m_frames.specs.declared.Frame.{Frame}
+use Rattle.y4m_frames.specs.declared.KnownHeader.{KnownHeader}
 use Rattle.y4m_frames.specs.Stream.{depths_of, is_known, ends_at, is_place, samples_begin, past_frame, is_whole}
 use Rattle.y4m_frames.specs.Questions.{lent_image, frame_questions, frame_answer, is_read}
-use Rattle.y4m_frames.specs.Judged.{no_header, JudgedAs, places_of}
-use Rattle.y4m_frames.proofs.Headers.{HeaderIs, width_is, height_is}
-use Rattle.y4m.specs.Reading.{header_questions, header_told, frame_told, y_after, u_after, v_after}
+use Rattle.y4m_frames.specs.Judged.{said_of, header_known, header_said, known_header, frame_in, judged_frame}
+use Rattle.y4m_frames.proofs.Headers.{HeaderIs, known_met}
+use Rattle.y4m_frames.proofs.Told.{judged_answered}
+use Rattle.y4m.specs.Reading.{header_questions, header_told, told_frame, frame_told, y_after, u_after, v_after}
 use Rattle.y4m.specs.Inner.{framed, PlanesFit}
 
-module _ {e : Element} {s : List ℕ} {place : ℕ} {t : Strides} {l : Lengths} {j : Judged} (judged : JudgedAs e s place t l j) where
-  -- ---- a frame that is not read
+-- the numbers, by the header that is told
+framed_said : (met : Bool) (s : List ℕ) (answer : Verdict) (next found : ℕ)
+    → framed (as_told answer) (cond met (Some (said_of s)) None) next found ≡ told_frame answer met s next found
+framed_said true s answer next found = refl
+framed_said false s answer next found = refl
 
-  module _ (unread : j.read ≡ false) where
-    not_read : is_read e s place t l ≡ false
-    not_read = sym judged.read ∙ unread
+module _ (e : ℕ) (s : List ℕ) (place : ℕ) (t : Strides) (l : Lengths) where
+  abbrev met : Bool
+  met = is_header s && is_known (depths_of e) s
 
-    pub told_unread : framed (told j.answer) j.header (cond j.read j.places.end place) (cond j.read 1 0) ≡ frame_told e s place t l
-    unfolding frame_told
-    told_unread = rw (unread, not_read, judged.answer, judged.width, judged.height, judged.sampling, judged.depth)
+  -- ---- where no frame is read
 
+  -- at the stream's end
+  end_answer : judged_frame e s place t l ≡ Ok None → (frame_answer e s place t l ≡ accepted) × (is_read e s place t l ≡ false)
+  unfolding judged_frame is_read
+  end_answer is = (a, by_end (ends_at s place) (asked (frame_questions e s place t l)) _ is _ a)
+    where
+      a : frame_answer e s place t l ≡ accepted
+      a = sym (judged_answered e s place t l) ∙ ap answered is
+
+      by_end : (ends : Bool) (r : Result (Unit {0}) YuvError) (f : Frame) → giving r (cond ends None (Some f)) ≡ Ok None
+          → (v : Verdict) → v ≡ accepted → cond ends false (eqb v.number 0) ≡ false
+      by_end true r f h v a = refl
+      by_end false (Ok u) f h v a = let z : ◌≡◌ {A = ℕ} 0 1 = cc in absurd (omega arith)
+      by_end false (Err x) f h v a = let z : ◌≡◌ {A = ℕ} 0 1 = cc in absurd (omega arith)
+
+  -- where a question gets a "no"
+  error_answer : {x : YuvError} → judged_frame e s place t l ≡ Err x → (frame_answer e s place t l ≡ told x) × (is_read e s place t l ≡ false)
+  unfolding is_read
+  error_answer {x} is = (a, by_end (ends_at s place))
+    where
+      a : frame_answer e s place t l ≡ told x
+      a = sym (judged_answered e s place t l) ∙ ap answered is
+
+      by_end : (ends : Bool) → cond ends false (eqb (frame_answer e s place t l).number 0) ≡ false
+      by_end true = refl
+      by_end false = rw (a, refused_number x) refl
+
+  module _ (unread : is_read e s place t l ≡ false) where
     pub y_kept : (y : List ℕ) → y ≡ y_after e s place t l y
     unfolding y_after
-    y_kept y = rw not_read
+    y_kept y = rw unread
 
     pub u_kept : (u : List ℕ) → u ≡ u_after e s place t l u
     unfolding u_after
-    u_kept u = rw not_read
+    u_kept u = rw unread
 
     pub v_kept : (v : List ℕ) → v ≡ v_after e s place t l v
     unfolding v_after
-    v_kept v = rw not_read
+    v_kept v = rw unread
+
+    told_without : {v : Verdict} → frame_answer e s place t l ≡ v → framed (as_told v) (header_said (depths_of e) s) place 0 ≡ frame_told e s place t l
+    unfolding frame_told
+    told_without {v} a = rw (unread, a) (framed_said met s v place 0)
+
+  module _ (is : judged_frame e s place t l ≡ Ok None) where
+    pub end_unread : is_read e s place t l ≡ false
+    end_unread = (end_answer is).1
+
+    pub told_end : framed (as_told accepted) (header_said (depths_of e) s) place 0 ≡ frame_told e s place t l
+    told_end = told_without end_unread (end_answer is).0
+
+  module _ {x : YuvError} (is : judged_frame e s place t l ≡ Err x) where
+    pub error_unread : is_read e s place t l ≡ false
+    error_unread = (error_answer is).1
+
+    pub told_error : framed (as_told (told x)) (header_said (depths_of e) s) place 0 ≡ frame_told e s place t l
+    told_error = told_without error_unread (error_answer is).0
 
   -- ---- a frame that is read
 
-  module _ (read : j.read ≡ true) where
-    is_read_lem : is_read e s place t l ≡ true
-    is_read_lem = sym judged.read ∙ read
+  module _ {f : Frame} (is : judged_frame e s place t l ≡ Ok (Some f)) where
+    answer_read : frame_answer e s place t l ≡ accepted
+    answer_read = sym (judged_answered e s place t l) ∙ ap answered is
 
-    -- the stream goes on, and every question held
-    goes_on : (ends_at s place ≡ false) × ((frame_answer e s place t l).number ≡ 0)
-    unfolding is_read
-    goes_on = by_end (ends_at s place) refl is_read_lem
+    -- the stream goes on
+    frame_found : (ends_at s place ≡ false) × (f ≡ frame_in e (samples_begin s place) (said_of s))
+    unfolding judged_frame
+    frame_found = by_end (ends_at s place) refl (asked (frame_questions e s place t l)) _ is
       where
-        by_end : (b : Bool) → ends_at s place ≡ b → cond b false (eqb (frame_answer e s place t l).number 0) ≡ true
-            → (ends_at s place ≡ false) × ((frame_answer e s place t l).number ≡ 0)
-        by_end true q r = let z : ◌≡◌ {A = ℕ} 0 1 = cc in absurd (omega arith)
-        by_end false q r = (q, eqb-true _ 0 r)
+        by_end : (ends : Bool) → ends_at s place ≡ ends → (r : Result (Unit {0}) YuvError) (g : Frame) → giving r (cond ends None (Some g)) ≡ Ok (Some f)
+            → (ends_at s place ≡ false) × (f ≡ g)
+        by_end true q (Ok u) g h = let z : ◌≡◌ {A = ℕ} 0 1 = cc in absurd (omega arith)
+        by_end true q (Err x) g h = let z : ◌≡◌ {A = ℕ} 0 1 = cc in absurd (omega arith)
+        by_end false q (Ok u) g h = (q, cc)
+        by_end false q (Err x) g h = let z : ◌≡◌ {A = ℕ} 0 1 = cc in absurd (omega arith)
 
+    is_read_lem : is_read e s place t l ≡ true
+    unfolding is_read
+    is_read_lem = rw (frame_found.0, answer_read) refl
+
+    -- every question held
     holds : (k : ℕ) → (question_at (ask 16 (is_header s && is_place s place) ∷ ask 17 (is_known (depths_of e) s)
         ∷ ask 18 (is_whole e s place)
         ∷ constraints (sampling_of (format_in s).sampling) (lent_image (width_of s) (height_of s) t) l) k).holds ≡ true
     unfolding frame_answer frame_questions
-    holds k = each_holds _ refl (rw goes_on.0 at goes_on.1) k
+    holds k = each_holds _ refl (ap (λ (v : Verdict). v.number) (rw frame_found.0 at answer_read)) k
 
-    met : (is_header s && is_known (depths_of e) s) ≡ true
-    met = rw (((and-eq-true_iff (is_header s) _).0 (holds 0)).0, holds 1)
-
-    width_told : j.header.width ≡ width_of s
-    width_told = judged.width ∙ rw met
-
-    height_told : j.header.height ≡ height_of s
-    height_told = judged.height ∙ rw met
-
-    sampling_told : j.header.format.sampling ≡ (format_in s).sampling
-    sampling_told = judged.sampling ∙ rw met
-
-    places_are : j.places ≡ places_of e (samples_begin s place) (format_in s).sampling (width_of s) (height_of s)
-    places_are = judged.places read
-
-    pub told_read : framed (told j.answer) j.header (cond j.read j.places.end place) (cond j.read 1 0) ≡ frame_told e s place t l
+    pub told_read : framed (as_told accepted) (header_said (depths_of e) s) f.places.end 1 ≡ frame_told e s place t l
     unfolding frame_told
-    told_read = rw (read, is_read_lem, places_are, judged.answer, judged.width, judged.height, judged.sampling, judged.depth)
+    told_read = rw (is_read_lem, frame_found.1, answer_read) (framed_said met s accepted (past_frame e s place) 1)
 
-    pub planes_fit : PlanesFit e s j.places j.header t l.y l.u l.v
+    pub planes_fit : PlanesFit e s f t l.y l.u l.v
     planes_fit =
         let end : past_frame e s place ≤ length s = leb-true _ _ (holds 2) in
-        rw (places_are, width_told, height_told, sampling_told)
+        rw frame_found.1
         (record {
           y = record { bytes = omega arith; narrow = leb-true _ _ (holds 3); long = leb-true _ _ (holds 4) };
           u = record { bytes = omega arith; narrow = leb-true _ _ (holds 5); long = leb-true _ _ (holds 6) };
           v = record { bytes = omega arith; narrow = leb-true _ _ (holds 7); long = leb-true _ _ (holds 8) };
         })
 
-    pub y_read : (y : List ℕ) → plane_read e s j.places.y j.header.width j.header.height t.y y ≡ y_after e s place t l y
+    pub y_read : (y : List ℕ) → plane_read e s f.places.y f.header.width f.header.height t.y y ≡ y_after e s place t l y
     unfolding y_after
-    y_read y = rw (is_read_lem, places_are, width_told, height_told)
+    y_read y = rw (is_read_lem, frame_found.1)
 
     pub u_read : (u : List ℕ)
-        → plane_read e s j.places.u (chroma_width j.header.width) (chroma_height (sampling_of j.header.format.sampling) j.header.height) t.u u
+        → plane_read e s f.places.u (chroma_width f.header.width) (chroma_height (sampling_of f.header.format.sampling) f.header.height) t.u u
         ≡ u_after e s place t l u
     unfolding u_after
-    u_read u = rw (is_read_lem, places_are, width_told, height_told, sampling_told)
+    u_read u = rw (is_read_lem, frame_found.1)
 
     pub v_read : (v : List ℕ)
-        → plane_read e s j.places.v (chroma_width j.header.width) (chroma_height (sampling_of j.header.format.sampling) j.header.height) t.v v
+        → plane_read e s f.places.v (chroma_width f.header.width) (chroma_height (sampling_of f.header.format.sampling) f.header.height) t.v v
         ≡ v_after e s place t l v
     unfolding v_after
-    v_read v = rw (is_read_lem, places_are, width_told, height_told, sampling_told)
+    v_read v = rw (is_read_lem, frame_found.1)
 
 -- ---- what the header's own call tells
 
 module _ (s : List ℕ) where
-  pub told_malformed : is_header s ≡ false → framed (told MalformedStream) no_header 0 0 ≡ header_told s
-  unfolding header_told header_questions verdict told
+  pub told_malformed : is_header s ≡ false → framed (as_told (told MalformedStream)) None 0 0 ≡ header_told s
+  unfolding header_told header_questions verdict
   told_malformed f = rw f
 
   module _ {h : Header} (is : HeaderIs s h) where
-    pub told_unknown : is_known depths s ≡ false → framed (told UnknownStream) no_header 0 0 ≡ header_told s
-    unfolding header_told header_questions verdict told
-    told_unknown k = rw (is.formed, k)
+    -- by question 17
+    by_known : (k : Bool) → is_known depths s ≡ k
+        → ((g : KnownHeader) → cond k (Ok (said_of s)) (Err UnknownStream) ≡ Ok g → framed (as_told accepted) (Some g) h.past 0 ≡ header_told s)
+        × ((x : YuvError) → cond k (Ok (said_of s)) (Err UnknownStream) ≡ Err x → framed (as_told (told x)) None 0 0 ≡ header_told s)
+    unfolding header_told header_questions verdict
+    by_known true k = (
+      λ g e. let g_is : g ≡ said_of s = cc in rw (g_is, is.formed, k, is.past),
+      λ x e. let z : ◌≡◌ {A = ℕ} 0 1 = cc in absurd (omega arith),
+    )
+    by_known false k = (
+      λ g e. let z : ◌≡◌ {A = ℕ} 0 1 = cc in absurd (omega arith),
+      λ x e. let x_is : x ≡ UnknownStream = cc in rw (x_is, is.formed, k),
+    )
 
-    pub told_known : is_known depths s ≡ true → framed (told Accepted) h h.past 0 ≡ header_told s
-    unfolding header_told header_questions verdict told
-    told_known k = rw (is.formed, k, is.past, width_is is depths k, height_is is depths k, is.format)
+    known_is : known_header depths h ≡ header_known depths s
+    known_is = known_met is depths refl
+
+    pub told_known : {g : KnownHeader} → known_header depths h ≡ Ok g → framed (as_told accepted) (Some g) h.past 0 ≡ header_told s
+    told_known {g} e = (by_known (is_known depths s) refl).0 g (sym known_is ∙ e)
+
+    pub told_unknown : {x : YuvError} → known_header depths h ≡ Err x → framed (as_told (told x)) None 0 0 ≡ header_told s
+    told_unknown {x} e = (by_known (is_known depths s) refl).1 x (sym known_is ∙ e)

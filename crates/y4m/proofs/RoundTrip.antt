@@ -3,7 +3,7 @@
 -- Assumes nothing.
 use mathlib.Core.Path.{◌≡◌, refl, sym, ap, ◌∙◌}
 use mathlib.Core.List.{List, [], ◌∷◌, ◌++◌, append_assoc, append-nil}
-use Prim.Native.Nat.{ℕ, ◌+◌, ◌≤◌}
+use Prim.Native.Nat.{ℕ, ◌+◌, ◌≤◌, ◌<◌}
 use native.Mathlib.Omega.{arith}
 use borrow.Author.Tests.{ne_eqb}
 use lib.Dec.{T}
@@ -11,7 +11,6 @@ use lib.ListN.{length, length-append}
 use Rattle.yuv_support.specs.Settings.{among}
 use Rattle.y4m_lines.specs.Lines.{past_line}
 use Rattle.y4m_lines.proofs.WrittenHeader.{HeaderFound, header_found}
-use Rattle.y4m_planes.specs.declared.Element.{Element}
 use Rattle.y4m_frames.specs.declared.Strides.{Strides}
 use Rattle.y4m_frames.specs.Stream.{depths_of, frame_begin}
 use Rattle.y4m.specs.Writing.{write_header_answer, write_frame_answer, frame_text}
@@ -19,7 +18,7 @@ use Rattle.y4m.specs.RoundTrip.{FrameCall, call_image, call_lengths, header_part
 use Rattle.y4m.proofs.WrittenBytes.{HeaderAccepted, header_accepted, header_part_is, frame_accepted, frame_part_is}
 use Rattle.y4m.proofs.ReadAgain.{none_found, frame_found}
 
-module _ (e : Element) (sampling depth width height : ℕ) (out : List ℕ) where
+module _ (e : ℕ) (sampling depth width height : ℕ) (out : List ℕ) where
   abbrev part : FrameCall → List ℕ
   part = frame_part e sampling depth width height out
 
@@ -59,7 +58,7 @@ module _ (e : Element) (sampling depth width height : ℕ) (out : List ℕ) wher
 
   -- ---- an accepted header
 
-  module _ (known : T (among depth (depths_of e))) (a : (write_header_answer sampling depth width height (length out)).number ≡ 0) where
+  module _ (some : 0 < e) (known : T (among depth (depths_of e))) (a : (write_header_answer sampling depth width height (length out)).number ≡ 0) where
     header : HeaderAccepted sampling depth width height (length out)
     header = header_accepted sampling depth width height (length out) a
 
@@ -92,7 +91,7 @@ module _ (e : Element) (sampling depth width height : ℕ) (out : List ℕ) wher
         let end : length (stream first) + length (frame_text e sampling i c.y c.u c.v) ≡ length (stream (first ++ c ∷ [])) =
         rw text at (sym (one_more first c)) in
         rw end at
-        (frame_found e sampling depth width height out s (found (first ++ c ∷ rest)) known header c (stream first) (parts rest) split
+        (frame_found e some sampling depth width height out s (found (first ++ c ∷ rest)) known header c (stream first) (parts rest) split
         (length c.out) (frame_accepted e sampling depth i l (length c.out) accepted) place at (past_header (first ++ c ∷ rest) first) t y u v)
 
     start : (calls : List FrameCall) → frame_begin (stream calls) 0 ≡ length (stream [])
@@ -106,8 +105,8 @@ module _ (e : Element) (sampling depth width height : ℕ) (out : List ℕ) wher
       frames = λ first c rest is place t y u v at.
           rw is (frame_back first c rest (one_accepted first c rest (rw is at all)) place t y u v (rw is at at));
       last = λ place t y u v at.
-          none_found e sampling depth width height out (stream calls) (found calls) known header place at (past_header calls calls) t y u v;
+          none_found e some sampling depth width height out (stream calls) (found calls) known header place at (past_header calls calls) t y u v;
     }
 
 pub written_is_read_back : WrittenIsReadBack
-written_is_read_back e sampling depth width height out calls known a all = read_back e sampling depth width height out known a calls all
+written_is_read_back e sampling depth width height out calls some known a all = read_back e sampling depth width height out some known a calls all

@@ -9,7 +9,7 @@ use borrow.Author.Tests.{leb-true}
 use lib.Dec.{T}
 use lib.ListN.{length, take, length-append}
 use lib.Seq.{sets, sets-eq, take-append_seam}
-use Rattle.yuv_support.specs.declared.YuvPlanarImage.{YuvPlanarImage}
+use Rattle.yuv_support.specs.declared.Geometry.{Geometry}
 use Rattle.yuv_support.specs.Settings.{among, sampling_of, depths}
 use Rattle.yuv_support.specs.Blend.{chroma_width, chroma_height}
 use Rattle.yuv_support.specs.Questions.{ask, at_least, sampling_known, sides}
@@ -18,8 +18,7 @@ use Rattle.images.specs.declared.Lengths.{Lengths}
 use Rattle.images.specs.Request.{constraints}
 use Rattle.images.proofs.Held.{Sides, sides_held}
 use Rattle.y4m_text.specs.Write.{header_text}
-use Rattle.y4m_planes.specs.declared.Element.{Element}
-use Rattle.y4m_planes.proofs.Planes.{plane_bytes_length}
+use Rattle.planes.proofs.StreamPlanes.{plane_bytes_length}
 use Rattle.y4m_frames.specs.Stream.{depths_of}
 use Rattle.y4m.specs.Writing.{write_header_answer, header_written, after_header, write_frame_answer, frame_text, frame_length, frame_written, after_frame}
 use Rattle.y4m.specs.Inner.{OutputFits}
@@ -49,7 +48,7 @@ header_accepted sampling depth width height out_length a =
       room = leb-true _ _ (each_holds output refl second.1 0);
     }
 
-pub frame_accepted : (e : Element) (sampling depth : ℕ) (i : YuvPlanarImage) (l : Lengths) (out_length : ℕ)
+pub frame_accepted : (e : ℕ) (sampling depth : ℕ) (i : Geometry) (l : Lengths) (out_length : ℕ)
     → (write_frame_answer e sampling depth i l out_length).number ≡ 0 → OutputFits e sampling i l out_length
 unfolding write_frame_answer
 frame_accepted e sampling depth i l out_length a =
@@ -77,14 +76,14 @@ frame_accepted e sampling depth i l out_length a =
 text_kept : (text out : List ℕ) → length text ≤ length out → take (length text) (sets out 0 text) ≡ text
 text_kept text out h = rw (sets-eq text out 0 (omega arith)) (take-append_seam text _)
 
-pub header_part_is : (e : Element) (sampling depth width height : ℕ) (out : List ℕ)
+pub header_part_is : (e : ℕ) (sampling depth width height : ℕ) (out : List ℕ)
     → (write_header_answer sampling depth width height (length out)).number ≡ 0
     → header_part e sampling depth width height out ≡ header_text sampling depth width height
 unfolding header_part header_written after_header
 header_part_is e sampling depth width height out a =
     rw a (text_kept (header_text sampling depth width height) out (header_accepted sampling depth width height (length out) a).room)
 
-pub frame_text_length : (e : Element) (sampling : ℕ) (i : YuvPlanarImage) (y u v : List ℕ) (out_length : ℕ)
+pub frame_text_length : (e : ℕ) (sampling : ℕ) (i : Geometry) (y u v : List ℕ) (out_length : ℕ)
     → OutputFits e sampling i (record { y = length y; u = length u; v = length v; rgb = 0 }) out_length
     → length (frame_text e sampling i y u v) ≡ frame_length e sampling i
 unfolding frame_text
@@ -99,7 +98,7 @@ frame_text_length e sampling i y u v out_length a =
       plane_bytes_length e i.v_stride columns rows v a.v_length,
     ))
 
-pub frame_part_is : (e : Element) (sampling depth width height : ℕ) (out : List ℕ) (c : FrameCall)
+pub frame_part_is : (e : ℕ) (sampling depth width height : ℕ) (out : List ℕ) (c : FrameCall)
     → (write_frame_answer e sampling depth (call_image e sampling depth width height out c) (call_lengths e sampling depth width height out c) (length c.out)).number ≡ 0
     → frame_part e sampling depth width height out c ≡ frame_text e sampling (call_image e sampling depth width height out c) c.y c.u c.v
 unfolding frame_part frame_written after_frame

@@ -7,8 +7,7 @@ use Rattle.yuv_support.specs.Questions.{Question, Verdict, ask, verdict}
 use Rattle.images.specs.declared.Lengths.{Lengths}
 use Rattle.y4m_lines.specs.Lines.{past_line}
 use Rattle.y4m_lines.specs.Header.{is_header, width_of, height_of, format_in}
-use Rattle.y4m_planes.specs.declared.Element.{Element}
-use Rattle.y4m_planes.specs.Planes.{plane_read}
+use Rattle.planes.specs.Stream.{plane_read}
 use Rattle.y4m_frames.specs.declared.Strides.{Strides}
 use Rattle.y4m_frames.specs.Stream.{depths_of, is_known, u_begin, v_begin, samples_begin, past_frame}
 use Rattle.y4m_frames.specs.Questions.{frame_answer, is_read}
@@ -41,25 +40,25 @@ header_told s =
 -- ---- a frame
 
 -- the answer: "the place after the frame"; without a frame "the place told is the one given, 0 included"
-unfoldable pub frame_told : Element → List ℕ → ℕ → Strides → Lengths → Y4mFrame
+unfoldable pub frame_told : ℕ → List ℕ → ℕ → Strides → Lengths → Y4mFrame
 frame_told e s place t l =
     let read = is_read e s place t l in
     told_frame (frame_answer e s place t l) (is_header s && is_known (depths_of e) s) s
     (cond read (past_frame e s place) place) (cond read 1 0)
 
 -- the planes: the frame's samples where one is read, and else unchanged
-unfoldable pub y_after : Element → List ℕ → ℕ → Strides → Lengths → List ℕ → List ℕ
+unfoldable pub y_after : ℕ → List ℕ → ℕ → Strides → Lengths → List ℕ → List ℕ
 y_after e s place t l y =
     cond (is_read e s place t l) (plane_read e s (samples_begin s place) (width_of s) (height_of s) t.y y) y
 
-unfoldable pub u_after : Element → List ℕ → ℕ → Strides → Lengths → List ℕ → List ℕ
+unfoldable pub u_after : ℕ → List ℕ → ℕ → Strides → Lengths → List ℕ → List ℕ
 u_after e s place t l u =
     cond (is_read e s place t l)
     (plane_read e s (u_begin e (samples_begin s place) (width_of s) (height_of s))
     (chroma_width (width_of s)) (chroma_height (sampling_of (format_in s).sampling) (height_of s)) t.u u)
     u
 
-unfoldable pub v_after : Element → List ℕ → ℕ → Strides → Lengths → List ℕ → List ℕ
+unfoldable pub v_after : ℕ → List ℕ → ℕ → Strides → Lengths → List ℕ → List ℕ
 v_after e s place t l v =
     cond (is_read e s place t l)
     (plane_read e s (v_begin e (samples_begin s place) (format_in s).sampling (width_of s) (height_of s))

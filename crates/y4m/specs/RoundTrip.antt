@@ -1,14 +1,13 @@
 -- Document 02, slip 2: "a writer whose frames the reader turns back into the same samples", by the definitions that the entries' promises cite.
 -- Definitions only.
-use Rattle.std.specs.Prelude.{◌≡◌, List, [], ◌∷◌, ◌++◌, ℕ, ◌+◌, ◌*◌, T, length, take, get_or}
-use Rattle.yuv_support.specs.declared.YuvPlanarImage.{YuvPlanarImage}
+use Rattle.std.specs.Prelude.{◌≡◌, List, [], ◌∷◌, ◌++◌, ℕ, ◌+◌, ◌*◌, ◌≤◌, T, length, take, get_or}
+use Rattle.yuv_support.specs.declared.Geometry.{Geometry}
 use Rattle.yuv_support.specs.Settings.{among, sampling_of}
 use Rattle.yuv_support.specs.Blend.{chroma_width, chroma_height}
 use Rattle.yuv_support.specs.Picture.{painted}
 use Rattle.yuv_support.specs.Questions.{verdict}
 use Rattle.images.specs.declared.Lengths.{Lengths}
 use Rattle.images.specs.Request.{constraints}
-use Rattle.y4m_planes.specs.declared.Element.{Element}
 use Rattle.y4m_frames.specs.declared.Strides.{Strides}
 use Rattle.y4m_frames.specs.Stream.{depths_of, frame_begin}
 use Rattle.y4m_frames.specs.Questions.{lengths_of, lent_image, frame_answer}
@@ -26,8 +25,8 @@ pub record FrameCall : Type 0 where
   pub out : List ℕ
 
 -- one stream: its element, sampling, depth and sides, and the output of the header's call
-module _ (e : Element) (sampling depth width height : ℕ) (out : List ℕ) where
-  abbrev pub call_image : FrameCall → YuvPlanarImage
+module _ (e : ℕ) (sampling depth width height : ℕ) (out : List ℕ) where
+  abbrev pub call_image : FrameCall → Geometry
   call_image c = record {
     width = width;
     height = height;
@@ -112,10 +111,11 @@ module _ (e : Element) (sampling depth width height : ℕ) (out : List ℕ) wher
     pub last : (place : ℕ) (t : Strides) (y u v : List ℕ) → frame_begin (written calls) place ≡ begins calls
         → NoFurther (written calls) place t y u v
 
--- the theorem; the reader's planes have the element of the stream's depth
+-- the theorem; a sample has some bytes, e, and the stream's depth is one of those that such samples have
 abbrev pub WrittenIsReadBack : Type 0
 WrittenIsReadBack =
-    (e : Element) (sampling depth width height : ℕ) (out : List ℕ) (calls : List FrameCall)
+    (e : ℕ) (sampling depth width height : ℕ) (out : List ℕ) (calls : List FrameCall)
+    → 1 ≤ e
     → T (among depth (depths_of e))
     → (write_header_answer sampling depth width height (length out)).number ≡ 0
     → AllAccepted e sampling depth width height out calls

@@ -1,23 +1,26 @@
 -- What a header that was read says, and question 17 of it: sides above 16,384 are told as 16,385, which question 17 refuses alike.
 -- Assumes nothing.
-use mathlib.Core.Path.{◌≡◌, refl, ap, ◌∙◌}
+use mathlib.Core.Path.{◌≡◌, refl, ap}
 use mathlib.Core.Bool.{Bool, true, false, cond, ◌&&◌, and-eq-true_iff}
 use mathlib.Core.List.{List}
 use mathlib.Core.Logic.{◌⊎◌, inl, inr}
 use Prim.Native.Nat.{ℕ, ◌≤◌, ◌<◌}
 use native.Mathlib.Omega.{arith}
 use borrow.Author.Tests.{eqb-true, le-leb, lt-leb}
-use lib.Dec.{leb}
-use Rattle.yuv_support.specs.Settings.{among}
+use lib.Dec.{leb, eqb}
+use Rattle.std.specs.Result.{result_ok}
+use Rattle.std.specs.Prelude.{Some, None, Ok, Err}
+use Rattle.yuv_support.specs.Settings.{among, depths8, depths16}
 use Rattle.yuv_support.specs.Questions.{verdict}
 use Rattle.yuv_support.proofs.Overlay.{below_or_not}
 use Rattle.images.proofs.Held.{Sides, sides_held}
 use Rattle.y4m_lines.specs.declared.Header.{Header}
-use Rattle.y4m_lines.specs.declared.HeaderLine.TheVariants.{Formed, Malformed}
 use Rattle.y4m_lines.specs.Lines.{past_line}
-use Rattle.y4m_lines.specs.Header.{is_header, width_of, height_of, format_in}
+use Rattle.y4m_lines.specs.Header.{known_format, is_header, width_of, height_of, format_in}
 use Rattle.y4m_lines.specs.Read.{capped, header_read}
-use Rattle.y4m_frames.specs.Stream.{sides_known, is_known}
+use Rattle.yuv_error.specs.declared.error.YuvError.TheVariants.{UnknownStream}
+use Rattle.y4m_frames.specs.Stream.{depths_of, sides_known, is_known}
+use Rattle.y4m_frames.specs.Judged.{known_with, known_header, said_of, header_known, header_said}
 
 -- ---- what was read
 
@@ -25,18 +28,18 @@ pub record HeaderIs (s : List ℕ) (h : Header) : Type 0 where
   pub formed : is_header s ≡ true
   pub width : h.width ≡ capped (width_of s)
   pub height : h.height ≡ capped (height_of s)
-  pub format : h.format ≡ format_in s
+  pub format : h.format ≡ known_format (format_in s)
   pub past : h.past ≡ past_line s 0
 
-formed_is : (t : Bool) (g h : Header) → cond t (Formed g) Malformed ≡ Formed h → (t ≡ true) × (h ≡ g)
+formed_is : (t : Bool) (g h : Header) → cond t (Some g) None ≡ Some h → (t ≡ true) × (h ≡ g)
 formed_is true g h e = (refl, cc)
 formed_is false g h e = let z : ◌≡◌ {A = ℕ} 0 1 = cc in absurd (omega arith)
 
-not_formed : (t : Bool) (g : Header) → cond t (Formed g) Malformed ≡ Malformed → t ≡ false
+not_formed : (t : Bool) (g : Header) → cond t (Some g) None ≡ None → t ≡ false
 not_formed true g e = let z : ◌≡◌ {A = ℕ} 0 1 = cc in absurd (omega arith)
 not_formed false g e = refl
 
-pub header_is : (s : List ℕ) {h : Header} → header_read s ≡ Formed h → HeaderIs s h
+pub header_is : (s : List ℕ) {h : Header} → header_read s ≡ Some h → HeaderIs s h
 unfolding header_read
 header_is s {h} e =
     let f = formed_is (is_header s) _ h e in
@@ -48,7 +51,7 @@ header_is s {h} e =
       past = ap (λ (x : Header). x.past) f.1;
     }
 
-pub header_not : (s : List ℕ) → header_read s ≡ Malformed → is_header s ≡ false
+pub header_not : (s : List ℕ) → header_read s ≡ None → is_header s ≡ false
 unfolding header_read
 header_not s e = not_formed (is_header s) _ e
 
@@ -75,19 +78,40 @@ capped_known : (width height : ℕ) → sides_known (capped width) (capped heigh
 unfolding verdict
 capped_known width height = rw (least_same width, least_same height, most_same width, most_same height)
 
+unknown_depth : (e : ℕ) → among 0 (depths_of e) ≡ false
+unknown_depth e = by_size (eqb e 1)
+  where
+    by_size : (t : Bool) → among 0 (cond t depths8 depths16) ≡ false
+    by_size true = refl
+    by_size false = refl
+
 module _ {s : List ℕ} {h : Header} (is : HeaderIs s h) where
-  pub known_is : (known : List ℕ) {result : Bool} → result ≡ (among h.format.depth known && sides_known h.width h.height) → result ≡ is_known known s
+  pub known_met : (known : List ℕ) → among 0 known ≡ false → known_header known h ≡ header_known known s
   unfolding is_known
-  known_is known e = e ∙ rw (is.width, is.height, is.format, capped_known (width_of s) (height_of s))
+  known_met known zero_unknown = rw (is.width, is.height, is.format) (by_depth (eqb (format_in s).depth 0) refl)
+    where
+      by_sides : (t : Bool) → (among (format_in s).depth known && sides_known (width_of s) (height_of s)) ≡ t
+          → cond t (Ok (record { width = capped (width_of s); height = capped (height_of s); format = format_in s })) (Err UnknownStream)
+          ≡ cond t (Ok (said_of s)) (Err UnknownStream)
+      by_sides false k = refl
+      by_sides true k =
+          let sides : Sides (width_of s) (height_of s) = sides_known_lem (width_of s) (height_of s) ((and-eq-true_iff (among (format_in s).depth known) _).0 k).1 in
+          let w : capped (width_of s) ≡ width_of s = omega (arith, sides.width_most) in
+          let v : capped (height_of s) ≡ height_of s = omega (arith, sides.height_most) in
+          rw (w, v) refl
 
-  -- a known header has the stream's own sides
-  module _ (known : List ℕ) (k : is_known known s ≡ true) where
-    stream_sides : Sides (width_of s) (height_of s)
-    unfolding is_known
-    stream_sides = sides_known_lem (width_of s) (height_of s) ((and-eq-true_iff (among (format_in s).depth known) _).0 k).1
+      by_depth : (t : Bool) → eqb (format_in s).depth 0 ≡ t
+          → known_with known (capped (width_of s)) (capped (height_of s)) (cond t None (Some (format_in s))) ≡ header_known known s
+      by_depth true e = rw (eqb-true _ 0 e, zero_unknown) refl
+      by_depth false e = rw (capped_known (width_of s) (height_of s)) (by_sides (among (format_in s).depth known && sides_known (width_of s) (height_of s)) refl)
 
-    pub width_is : h.width ≡ width_of s
-    width_is = omega (arith, is.width, stream_sides.width_most)
+  -- with samples of so many bytes
+  pub known_met_of : (e : ℕ) → known_header (depths_of e) h ≡ header_known (depths_of e) s
+  known_met_of e = known_met (depths_of e) (unknown_depth e)
 
-    pub height_is : h.height ≡ height_of s
-    height_is = omega (arith, is.height, stream_sides.height_most)
+  pub said_if_known : (known : List ℕ) → result_ok (header_known known s) ≡ header_said known s
+  said_if_known known = rw is.formed (by_known (is_known known s))
+    where
+      by_known : (t : Bool) → result_ok (cond t (Ok (said_of s)) (Err UnknownStream)) ≡ cond t (Some (said_of s)) None
+      by_known true = refl
+      by_known false = refl

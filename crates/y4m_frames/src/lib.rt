@@ -2,21 +2,24 @@
 // lent planes.
 #![tactic(auto)]
 
-ghost use Rattle.std.specs.Prelude.{◌≡◌, true, cond, ◌&&◌, ◌*◌, ◌≤◌, eqb, length};
-ghost use Rattle.yuv_support.specs.Settings.{among};
+ghost use Rattle.std.specs.Prelude.{◌≡◌, true, cond, ◌*◌, ◌≤◌, eqb, length, Some, IfSome, IfOk};
+ghost use Rattle.yuv_support.specs.Questions.{verdict};
 ghost use Rattle.y4m_lines.specs.Lines.{past_line};
+ghost use Rattle.y4m_lines.specs.Header.{is_header};
 ghost use Rattle.y4m_lines.specs.Read.{header_read};
-ghost use Rattle.y4m_lines.specs.declared.HeaderLine.TheVariants.{Formed};
-ghost use Rattle.y4m_planes.specs.Planes.{size_of};
-ghost use Rattle.y4m_frames.specs.Stream.{depths_of, sides_known};
-ghost use Rattle.y4m_frames.specs.Questions.{lent_image};
-ghost use Rattle.y4m_frames.specs.Judged.{spot_of, places_of, no_header, not_read, SamplesJudged, JudgedAs};
+ghost use Rattle.yuv_error.specs.Told.{answered};
+ghost use Rattle.yuv_error.specs.Asked.{asked, giving};
+ghost use Rattle.y4m_frames.specs.Stream.{depths_of};
+ghost use Rattle.y4m_frames.specs.Questions.{lent_image, frame_answer};
+ghost use Rattle.y4m_frames.specs.Judged.{known_header, header_known, header_said, samples_at, places_of, frame_in, samples_questions, judged_frame};
 
-use images::Lengths;
-use y4m_lines::{Format, Header, HeaderLine, Line};
-use y4m_planes::Element;
+use images::{Lengths, check_constraints};
+use sample::Sample;
+use sample::depths::Depths;
+use y4m_lines::{Format, Header};
 use yuv_error::YuvError;
-use yuv_support::YuvPlanarImage;
+use yuv_error::buffers::{ask, check_sides};
+use yuv_support::Geometry;
 
 // The strides of the lent planes.
 #[derive(Clone, Copy)]
@@ -26,12 +29,12 @@ pub struct Strides {
     pub v: u32,
 }
 
-// What stands at a place of a stream: no frame line, the stream's end, or a frame, by the place of its samples.
+// What a header says that meets neither 16 nor 17.
 #[derive(Clone, Copy)]
-enum Spot {
-    NoPlace,
-    End,
-    Samples(usize),
+pub struct KnownHeader {
+    pub width: u32,
+    pub height: u32,
+    pub format: Format,
 }
 
 // Where the planes of a frame begin, and where the frame ends.
@@ -43,14 +46,45 @@ pub struct Places {
     pub end: usize,
 }
 
-// What is told of a frame before it is read, and where its planes stand where it is to be read.
+// A frame of a stream: what its header says, and where the planes stand.
 #[derive(Clone, Copy)]
-pub struct Judged {
-    pub answer: YuvError,
-    pub header: Header,
-    pub read: bool,
+pub struct Frame {
+    pub header: KnownHeader,
     pub places: Places,
 }
+
+// What is told of a call for a frame: the header, where it is known, and the frame, if the stream does not end at the place.
+#[derive(Clone, Copy)]
+pub struct Judged {
+    pub header: Option<KnownHeader>,
+    pub frame: Result<Option<Frame>, YuvError>,
+}
+
+// ---- the header
+
+// Question 17 of a header, for samples of one type: what it says.
+#[tactic(auto, unfolding(yuv_error::specs::Asked::asked, yuv_support::specs::Questions::verdict))]
+pub fn check_known<D: Depths>(h: Header) -> Result<KnownHeader, YuvError>
+    ensures known { result ≡ known_header D.known h }
+    ensures height_least { IfOk result (λ k. 1 ≤ k.height) }
+    ensures width_most { IfOk result (λ k. k.width ≤ 16384) }
+    ensures height_most { IfOk result (λ k. k.height ≤ 16384) }
+{
+    let Some(format) = h.format else {
+        return Err(YuvError::UnknownStream);
+    };
+    ask(D::is_known_depth(format.depth), YuvError::UnknownStream)?;
+    match check_sides(h.width, h.height) {
+        Ok(_) => Ok(KnownHeader {
+            width: h.width,
+            height: h.height,
+            format,
+        }),
+        Err(_) => Err(YuvError::UnknownStream),
+    }
+}
+
+// ---- the place of a frame
 
 // The place that a frame is asked for at, 0 standing for the header's end.
 fn frame_begin(place: u64, past: usize) -> usize
@@ -62,126 +96,56 @@ fn frame_begin(place: u64, past: usize) -> usize
     place as usize
 }
 
-// What stands at a place, `past` being the header's end.
-fn spot_at(s: &[u8], place: u64, past: usize) -> Spot
+// Question 16 of a place, `past` being the header's end: where the samples of its frame begin, if the stream does not end there.
+fn samples_at(s: &[u8], place: u64, past: usize) -> Result<Option<usize>, YuvError>
     requires { past ≡ past_line s.now 0 }
-    ensures { result ≡ spot_of s.now place }
+    ensures found { result ≡ samples_at s.now place }
+    ensures within { IfOk result (λ begin. IfSome begin (λ at. at ≤ length s.now)) }
 {
     let at = frame_begin(place, past);
     if at < past {
-        return Spot::NoPlace;
+        return Err(YuvError::MalformedStream);
     }
     if s.len() < at {
-        return Spot::NoPlace;
+        return Err(YuvError::MalformedStream);
     }
     if at == s.len() {
-        return Spot::End;
+        return Ok(None);
     }
     match y4m_lines::read_frame_line(s, at) {
-        Line::Until(end) => Spot::Samples(end + 1),
-        Line::NoLine => Spot::NoPlace,
+        Some(end) => Ok(Some(end + 1)),
+        None => Err(YuvError::MalformedStream),
     }
 }
 
 // The bytes of a count of samples.
-fn bytes_of(e: Element, columns: u32, rows: u32) -> usize
+fn bytes_of<S: Sample>(columns: u32, rows: u32) -> usize
     requires { (columns ≤ 16384) × (rows ≤ 16384) }
-    ensures { result ≡ size_of e * (columns * rows) }
+    ensures { result ≡ S.SIZE * (columns * rows) }
 {
-    let n = columns as usize * rows as usize;
-    match e {
-        Element::Byte => n,
-        Element::Word => 2 * n,
-    }
+    S::SIZE * (columns as usize * rows as usize)
 }
 
 // Where the planes of a frame stand whose samples begin at a place.
-pub fn places_of(e: Element, at: usize, sampling: u32, width: u32, height: u32) -> Places
+pub fn places_of<S: Sample>(at: usize, sampling: u32, width: u32, height: u32) -> Places
     requires { (width ≤ 16384) × (height ≤ 16384) × (at ≤ 9223372036854775808) }
-    ensures { result ≡ places_of e at sampling width height }
+    ensures { result ≡ places_of S.SIZE at sampling width height }
 {
     let rows = images::chroma_height(yuv_support::sampling_of(sampling), height);
-    let luma = bytes_of(e, width, height);
-    let chroma = bytes_of(e, images::chroma_width(width), rows);
+    let luma = bytes_of::<S>(width, height);
+    let chroma = bytes_of::<S>(images::chroma_width(width), rows);
     let u = at + luma;
     let v = u + chroma;
     let end = v + chroma;
     Places { y: at, u, v, end }
 }
 
-// Whether planes of an element have a depth.
-pub fn has_depth(e: Element, depth: u32) -> bool
-    ensures { result ≡ among depth (depths_of e) }
-{
-    match e {
-        Element::Byte => depth == 8,
-        Element::Word => {
-            if depth == 10 {
-                return true;
-            }
-            depth == 12
-        }
-    }
-}
+// ---- the questions
 
-// Question 17 of a header, the depth being known or not.
-pub fn is_known(h: Header, depth_known: bool) -> bool
-    ensures { result ≡ (depth_known && sides_known h.width h.height) }
-{
-    if depth_known {
-        return yuv_error::is_accepted(yuv_error::check_sides(h.width, h.height));
-    }
-    false
-}
-
-// What is told of a header that meets 16 or 17.
-pub fn no_header() -> Header
-    ensures { result ≡ no_header }
-{
-    let format = Format {
-        sampling: 0,
-        depth: 0,
-    };
-    Header {
-        width: 0,
-        height: 0,
-        format,
-        past: 0,
-    }
-}
-
-// What is told of a header, by question 17.
-fn told_header(h: Header, known: bool) -> Header
-    ensures { result ≡ cond known h no_header }
-{
-    if known {
-        return h;
-    }
-    no_header()
-}
-
-// A frame that is not read.
-fn unread(answer: YuvError, header: Header) -> Judged
-    ensures { result ≡ not_read answer header }
-{
-    let places = Places {
-        y: 0,
-        u: 0,
-        v: 0,
-        end: 0,
-    };
-    Judged {
-        answer,
-        header,
-        read: false,
-        places,
-    }
-}
-
-fn image_of(h: Header, t: Strides) -> YuvPlanarImage
+fn image_of(h: KnownHeader, t: Strides) -> Geometry
     ensures { result ≡ lent_image h.width h.height t }
 {
-    YuvPlanarImage {
+    Geometry {
         width: h.width,
         height: h.height,
         y_stride: t.y,
@@ -191,56 +155,69 @@ fn image_of(h: Header, t: Strides) -> YuvPlanarImage
 }
 
 // Questions 18 and 7 to 12 of a frame whose samples begin at a place.
-fn judge_samples(s: &[u8], at: usize, e: Element, h: Header, t: Strides, l: Lengths) -> Judged
-    requires { (sides_known h.width h.height ≡ true) × (at ≤ length s.now) }
-    ensures { SamplesJudged e s.now at h t l result }
+#[tactic(auto, unfolding(yuv_error::specs::Asked::asked))]
+fn check_samples<S: Sample>(
+    s: &[u8],
+    at: usize,
+    h: KnownHeader,
+    t: Strides,
+    l: Lengths,
+) -> Result<Option<Frame>, YuvError>
+    requires place { at ≤ length s.now }
+    requires height_least { 1 ≤ h.height }
+    requires width_most { h.width ≤ 16384 }
+    requires height_most { h.height ≤ 16384 }
+    ensures { result ≡
+        giving (asked (samples_questions S.SIZE s.now at h t l)) (Some (frame_in S.SIZE at h)) }
 {
-    let format = h.format;
-    let places = places_of(e, at, format.sampling, h.width, h.height);
-    if s.len() < places.end {
-        return unread(YuvError::ShortFrame, h);
-    }
-    let sampling = yuv_support::sampling_of(format.sampling);
-    let answer = images::check_constraints(sampling, image_of(h, t), l);
-    let read = yuv_error::is_accepted(answer);
-    Judged {
-        answer,
-        header: h,
-        read,
-        places,
-    }
+    let places = places_of::<S>(at, h.format.sampling, h.width, h.height);
+    ask(places.end <= s.len(), YuvError::ShortFrame)?;
+    let sampling = yuv_support::sampling_of(h.format.sampling);
+    check_constraints(sampling, image_of(h, t), l)?;
+    Ok(Some(Frame { header: h, places }))
 }
 
-// All questions of a frame, the header being well formed.
-fn judge_formed(s: &[u8], place: u64, e: Element, h: Header, t: Strides, l: Lengths) -> Judged
-    requires { header_read s.now ≡ Formed h }
-    ensures { JudgedAs e s.now place t l result }
+// Questions 16 of the place, 17, then 18 and 7 to 12 of a stream whose header is well formed; `known` is what question 17 says of it.
+#[tactic(auto, unfolding(yuv_error::specs::Asked::asked, crate::specs::Judged::judged_frame, crate::specs::Questions::frame_questions))]
+fn check_frame<S: Sample>(
+    s: &[u8],
+    place: u64,
+    past: usize,
+    known: Result<KnownHeader, YuvError>,
+    t: Strides,
+    l: Lengths,
+) -> Result<Option<Frame>, YuvError>
+    requires formed { is_header s.now ≡ true }
+    requires past { past ≡ past_line s.now 0 }
+    requires known { known ≡ header_known (depths_of S.SIZE) s.now }
+    requires height_least { IfOk known (λ h. 1 ≤ h.height) }
+    requires width_most { IfOk known (λ h. h.width ≤ 16384) }
+    requires height_most { IfOk known (λ h. h.height ≤ 16384) }
+    ensures { result ≡ judged_frame S.SIZE s.now place t l }
 {
-    let format = h.format;
-    let known = is_known(h, has_depth(e, format.depth));
-    match spot_at(s, place, h.past) {
-        Spot::NoPlace => unread(YuvError::MalformedStream, told_header(h, known)),
-        Spot::End => {
-            if known {
-                return unread(YuvError::Accepted, h);
-            }
-            unread(YuvError::UnknownStream, no_header())
-        }
-        Spot::Samples(at) => {
-            if known {
-                return judge_samples(s, at, e, h, t, l);
-            }
-            unread(YuvError::UnknownStream, no_header())
-        }
+    let begin = samples_at(s, place, past)?;
+    let h = known?;
+    match begin {
+        None => Ok(None),
+        Some(at) => check_samples::<S>(s, at, h, t, l),
     }
 }
 
 // All questions of a frame.
-pub fn judge(s: &[u8], place: u64, e: Element, t: Strides, l: Lengths) -> Judged
-    ensures { JudgedAs e s.now place t l result }
+pub fn judge<S: Sample>(s: &[u8], place: u64, t: Strides, l: Lengths) -> Judged
+    ensures header { result.header ≡ header_said (depths_of S.SIZE) s.now }
+    ensures frame { result.frame ≡ judged_frame S.SIZE s.now place t l }
+    ensures answer { answered result.frame ≡ frame_answer S.SIZE s.now place t l }
 {
-    match y4m_lines::read_header(s) {
-        HeaderLine::Malformed => unread(YuvError::MalformedStream, no_header()),
-        HeaderLine::Formed(h) => judge_formed(s, place, e, h, t, l),
+    let Some(h) = y4m_lines::read_header(s) else {
+        return Judged {
+            header: None,
+            frame: Err(YuvError::MalformedStream),
+        };
+    };
+    let known = check_known::<S>(h);
+    Judged {
+        header: known.ok(),
+        frame: check_frame::<S>(s, place, h.past, known, t, l),
     }
 }

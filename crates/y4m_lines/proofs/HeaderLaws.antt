@@ -1,85 +1,43 @@
--- Laws of the header: one digit more of a number that is capped (`Digits`), a side and the colour by the number of their fields, and what is
--- known of the line, a side and the colour where they were read.
+-- Laws of the header: a side and the colour by the texts of their fields, what reading the header answers once its line was found (`HeaderOf`),
+-- and a format that is known or missing.
 -- Assumes nothing.
-use mathlib.Core.Path.{◌≡◌, refl, sym, ◌∙◌}
-use mathlib.Core.Bool.{Bool, true, false, cond, and-false}
+use mathlib.Core.Path.{◌≡◌, refl}
+use mathlib.Core.Bool.{Bool, true, false, cond, ◌&&◌}
 use mathlib.Core.List.{List, [], ◌∷◌}
-use Prim.Native.Nat.{ℕ, suc, ◌+◌, ◌-◌, ◌*◌, ◌≤◌, ◌<◌}
+use Prim.Native.Nat.{ℕ, ◌+◌, ◌-◌, ◌≤◌}
 use native.Mathlib.Omega.{arith}
-use borrow.Author.Tests.{le-leb}
-use lib.Dec.{leb}
-use lib.ListN.{length, take, drop}
-use Rattle.sheet_numbers.specs.Numbers.{byte_at, is_digit, decimal, all_below}
-use Rattle.sheet_numbers.proofs.ManyNumbers.{all_none, all_one, not_all}
+use borrow.Author.Tests.{eqb-true}
+use lib.Dec.{eqb}
+use lib.ListN.{length, take}
+use Rattle.std.specs.Prelude.{Option, Some, None, Ok, Err}
+use Rattle.sheet_numbers.specs.Read.{begins_with}
+use Rattle.y4m_text.specs.Words.{header_word}
 use Rattle.y4m_lines.specs.declared.Format.{Format}
-use Rattle.y4m_lines.specs.declared.Field.{Field}
-use Rattle.y4m_lines.specs.declared.Field.TheVariants.{Single}
-use Rattle.y4m_lines.specs.declared.Side.{Side}
-use Rattle.y4m_lines.specs.declared.Side.TheVariants.{Value, NoSide}
-use Rattle.y4m_lines.specs.declared.Colour.{Colour}
-use Rattle.y4m_lines.specs.declared.Colour.TheVariants.{Named, Repeated}
-use Rattle.y4m_lines.specs.Lines.{line_at}
-use Rattle.y4m_lines.specs.Header.{digit_at, is_number, is_side, side_of, format, format_of, is_colour, colour_of}
-use Rattle.y4m_lines.specs.Read.{FieldIs, capped, number_read, side_read, colour_read}
+use Rattle.y4m_lines.specs.declared.Repeated.{Repeated}
+use Rattle.y4m_lines.specs.Lines.{line_at, is_line, fields, none_empty}
+use Rattle.y4m_lines.specs.Header.{named, is_side, side_of, format, format_of, known_format, is_colour, colour_of, widths, heights, colours, is_header, width_of, height_of, format_in}
+use Rattle.y4m_lines.specs.Read.{capped, number_read, side_read, colour_read, header_read}
 use Rattle.y4m_lines.proofs.OneLine.{Lined}
 
--- ---- one number
+-- ---- a format
 
--- the first i bytes of a text are digits, and `value` is the number that they make, capped
-pub record Digits (text : List ℕ) (value i : ℕ) : Type 0 where
-  pub most : i ≤ length text
-  pub digits : all_below (digit_at text) i ≡ true
-  pub number : value ≡ capped (decimal text 0 i)
+pub format_found : (f : Format) {g : Format} → known_format f ≡ Some g → g ≡ f
+format_found f {g} e = go (eqb f.depth 0) e
+  where
+    go : (t : Bool) → cond t None (Some f) ≡ Some g → g ≡ f
+    go true q = let z : ◌≡◌ {A = ℕ} 0 1 = cc in absurd (omega arith)
+    go false q = cc
 
-pub digits_none : (text : List ℕ) → Digits text 0 0
-unfolding decimal
-digits_none text = record { most = omega arith; digits = all_none (digit_at text); number = refl }
-
-pub digits_bound : {text : List ℕ} {value i : ℕ} → Digits text value i → value ≤ 16385
-digits_bound d = omega (arith, d.number)
-
-pub digits_one : {text : List ℕ} {value i : ℕ} → Digits text value i → i < length text → is_digit (byte_at text i) ≡ true
-    → Digits text (capped (10 * value + (byte_at text i - 48))) (i + 1)
-unfolding decimal
-digits_one {text} {value} {i} d h e =
-    let n : i + 1 ≡ suc i = omega arith in
-    let p : 0 + i ≡ i = omega arith in
-    record {
-      most = omega arith;
-      digits = all_one (digit_at text) i d.digits e;
-      number = rw (n, p, d.number) (omega arith);
-    }
-
--- what reading a number answers: there is no byte, or one that is no digit, or all are digits
-pub no_digits : (text : List ℕ) → length text ≡ 0 → NoSide ≡ number_read text
-unfolding is_number
-no_digits text e = rw e
-
-pub digits_missed : (text : List ℕ) {i : ℕ} → i < length text → is_digit (byte_at text i) ≡ false → NoSide ≡ number_read text
-unfolding is_number
-digits_missed text h e = rw (not_all (digit_at text) (length text) h e, and-false (leb 1 (length text)))
-
-pub digits_all : {text : List ℕ} {value i : ℕ} → Digits text value i → length text ≤ i → (length text ≡ 0 → ⊥) → Value value ≡ number_read text
-unfolding is_number
-digits_all {text} {value} {i} d h e =
-    let n : i ≡ length text = omega (arith, d.most) in
-    let l : 1 ≤ length text = omega arith in
-    rw (le-leb 1 (length text) l, ← n, d.digits, d.number)
+pub format_missing : (f : Format) → known_format f ≡ None → f.depth ≡ 0
+format_missing f e = go (eqb f.depth 0) refl e
+  where
+    go : (t : Bool) → eqb f.depth 0 ≡ t → cond t None (Some f) ≡ None → f.depth ≡ 0
+    go true q r = eqb-true f.depth 0 q
+    go false q r = let z : ◌≡◌ {A = ℕ} 0 1 = cc in absurd (omega arith)
 
 -- ---- a side and the colour, by the texts of their fields
 
--- the only field's text stands in the line from a place up to another
-pub record Only (line : List ℕ) (texts : List (List ℕ)) (begin end : ℕ) : Type 0 where
-  pub order : begin ≤ end
-  pub within : end ≤ length line
-  pub text : texts ≡ take (end - begin) (drop begin line) ∷ []
-
-pub only_field : {line : List ℕ} {texts : List (List ℕ)} {found : Field} {begin end : ℕ} → FieldIs line texts found → found ≡ Single begin end
-    → Only line texts begin end
-unfolding FieldIs
-only_field h e = let f = rw e at h in record { order = f.0; within = f.1; text = f.2 }
-
-pub side_absent : {texts : List (List ℕ)} → texts ≡ [] → NoSide ≡ side_read texts
+pub side_absent : {texts : List (List ℕ)} → texts ≡ [] → None ≡ side_read texts
 unfolding is_side
 side_absent e = rw e
 
@@ -87,30 +45,25 @@ pub side_single : {texts : List (List ℕ)} {text : List ℕ} → texts ≡ text
 unfolding is_side side_of
 side_single e = rw e
 
-pub side_several : (texts : List (List ℕ)) → 2 ≤ length texts → NoSide ≡ side_read texts
+pub side_several : (texts : List (List ℕ)) → 2 ≤ length texts → None ≡ side_read texts
 unfolding is_side
 side_several [] h = absurd (omega arith)
 side_several (text ∷ []) h = absurd (omega arith)
 side_several (text ∷ second ∷ more) h = refl
 
-pub colour_absent : {texts : List (List ℕ)} → texts ≡ [] → Named (format 0 8) ≡ colour_read texts
+pub colour_absent : {texts : List (List ℕ)} → texts ≡ [] → Ok (Some (format 0 8)) ≡ colour_read texts
 unfolding is_colour colour_of
 colour_absent e = rw e
 
-pub colour_single : {texts : List (List ℕ)} {text : List ℕ} → texts ≡ text ∷ [] → Named (format_of text) ≡ colour_read texts
+pub colour_single : {texts : List (List ℕ)} {text : List ℕ} → texts ≡ text ∷ [] → Ok (known_format (format_of text)) ≡ colour_read texts
 unfolding is_colour colour_of
 colour_single e = rw e
 
-pub colour_several : (texts : List (List ℕ)) → 2 ≤ length texts → Repeated ≡ colour_read texts
+pub colour_several : (texts : List (List ℕ)) (r : Repeated) → 2 ≤ length texts → Err r ≡ colour_read texts
 unfolding is_colour
-colour_several [] h = absurd (omega arith)
-colour_several (text ∷ []) h = absurd (omega arith)
-colour_several (text ∷ second ∷ more) h = refl
-
--- ---- what a caller knows of the line, a side and the colour that were read
-
-pub first_text : {s : List ℕ} {end : ℕ} → Lined s 0 end → take end s ≡ line_at s 0
-first_text {s} {end} l = let e : end ≡ end - 0 = omega arith in rw e l.text
+colour_several [] r h = absurd (omega arith)
+colour_several (text ∷ []) r h = absurd (omega arith)
+colour_several (text ∷ second ∷ more) r h = refl
 
 -- which of two was chosen, where the answer is not the other
 taken : {A : Type 0} (t : Bool) {a b x : A} → x ≡ cond t a b → (x ≡ b → ◌≡◌ {A = ℕ} 0 1) → (t ≡ true) × (x ≡ a)
@@ -121,20 +74,73 @@ left : {A : Type 0} (t : Bool) (b : A) {a x : A} → x ≡ cond t a b → (x ≡
 left true b e h = let z = h e in absurd (omega arith)
 left false b e h = refl
 
-module _ (texts : List (List ℕ)) {side : Side} (answer : side ≡ side_read texts) where
-  pub side_is : {value : ℕ} → side ≡ Value value → (is_side texts ≡ true) × (value ≡ capped (side_of texts))
-  side_is e =
-      let f = taken (is_side texts) (sym e ∙ answer) (λ q. cc) in
-      (f.0, let g = f.1 in cc)
+side_is : (texts : List (List ℕ)) {value : ℕ} → Some value ≡ side_read texts → (is_side texts ≡ true) × (value ≡ capped (side_of texts))
+side_is texts e =
+    let f = taken (is_side texts) e (λ q. cc) in
+    (f.0, let g = f.1 in cc)
 
-  pub no_side : side ≡ NoSide → is_side texts ≡ false
-  no_side e = left (is_side texts) NoSide (sym e ∙ answer) (λ q. cc)
+no_side : (texts : List (List ℕ)) → None ≡ side_read texts → is_side texts ≡ false
+no_side texts e = left (is_side texts) None e (λ q. cc)
 
-module _ (texts : List (List ℕ)) {colour : Colour} (answer : colour ≡ colour_read texts) where
-  pub colour_is : {named : Format} → colour ≡ Named named → (is_colour texts ≡ true) × (named ≡ colour_of texts)
-  colour_is e =
-      let f = taken (is_colour texts) (sym e ∙ answer) (λ q. cc) in
-      (f.0, let g = f.1 in cc)
+colour_is : (texts : List (List ℕ)) {named : Option Format} → Ok named ≡ colour_read texts
+    → (is_colour texts ≡ true) × (named ≡ known_format (colour_of texts))
+colour_is texts e =
+    let f = taken (is_colour texts) e (λ q. cc) in
+    (f.0, let g = f.1 in cc)
 
-  pub no_colour : colour ≡ Repeated → is_colour texts ≡ false
-  no_colour e = left (is_colour texts) Repeated (sym e ∙ answer) (λ q. cc)
+no_colour : (texts : List (List ℕ)) (r : Repeated) → Err r ≡ colour_read texts → is_colour texts ≡ false
+no_colour texts r e = left (is_colour texts) (Err (record {})) e (λ q. cc)
+
+-- ---- what reading the header answers
+
+first_text : {s : List ℕ} {end : ℕ} → Lined s 0 end → take end s ≡ line_at s 0
+first_text {s} {end} l = let e : end ≡ end - 0 = omega arith in rw e l.text
+
+pub no_line : (s : List ℕ) → is_line s 0 ≡ false → None ≡ header_read s
+unfolding header_read is_header
+no_line s e = rw e
+
+module _ {s : List ℕ} {end : ℕ} (l : Lined s 0 end) where
+  pub no_word : begins_with (take end s) header_word ≡ false → None ≡ header_read s
+  unfolding header_read is_header
+  no_word w = rw (l.formed, rw (first_text l) at w)
+
+  module _ (w : begins_with (take end s) header_word ≡ true) where
+    pub one_empty : none_empty (fields (take end s)) ≡ false → None ≡ header_read s
+    unfolding header_read is_header
+    one_empty n = rw (l.formed, rw (first_text l) at w, rw (first_text l) at n)
+
+    module _ (n : none_empty (fields (take end s)) ≡ true) where
+      -- so that the sides and the colour are left
+      sides_left : is_header s ≡ is_side (widths s) && (is_side (heights s) && is_colour (colours s))
+      unfolding is_header
+      sides_left = rw (l.formed, rw (first_text l) at w, rw (first_text l) at n)
+
+      pub no_width : None ≡ side_read (named 87 (fields (take end s))) → None ≡ header_read s
+      unfolding header_read
+      no_width e = rw (sides_left, no_side (widths s) (rw (first_text l) at e))
+
+      module _ {width : ℕ} (wide : Some width ≡ side_read (named 87 (fields (take end s)))) where
+        pub no_height : None ≡ side_read (named 72 (fields (take end s))) → None ≡ header_read s
+        unfolding header_read
+        no_height e = rw (sides_left, (side_is (widths s) (rw (first_text l) at wide)).0, no_side (heights s) (rw (first_text l) at e))
+
+        module _ {height : ℕ} (high : Some height ≡ side_read (named 72 (fields (take end s)))) where
+          pub two_colours : (r : Repeated) → Err r ≡ colour_read (named 67 (fields (take end s))) → None ≡ header_read s
+          unfolding header_read
+          two_colours r e =
+              rw (
+                sides_left,
+                (side_is (widths s) (rw (first_text l) at wide)).0,
+                (side_is (heights s) (rw (first_text l) at high)).0,
+                no_colour (colours s) r (rw (first_text l) at e),
+              )
+
+          pub whole_header : {found : Option Format} → Ok found ≡ colour_read (named 67 (fields (take end s)))
+              → Some (record { width = width; height = height; format = found; past = end + 1 }) ≡ header_read s
+          unfolding header_read width_of height_of format_in
+          whole_header e =
+              let a = side_is (widths s) (rw (first_text l) at wide) in
+              let b = side_is (heights s) (rw (first_text l) at high) in
+              let f = colour_is (colours s) (rw (first_text l) at e) in
+              rw (sides_left, a.0, b.0, f.0, a.1, b.1, f.1, l.place)

@@ -1,4 +1,5 @@
 pub mod Fields
+pub mod Numbers
 pub mod OneLine
 pub mod HeaderLaws
 pub mod WrittenHeader

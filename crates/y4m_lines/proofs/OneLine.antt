@@ -13,45 +13,46 @@ use lib.ListN.{length, take, drop, length-drop}
 use Rattle.yuv_support.proofs.Overlay.{below_or_not}
 use Rattle.sheet_numbers.specs.Read.{begins_with}
 use Rattle.y4m_text.specs.Words.{frame_word}
-use Rattle.y4m_lines.specs.declared.Line.{Line}
-use Rattle.y4m_lines.specs.declared.Line.TheVariants.{Until, NoLine}
+use Rattle.std.specs.Prelude.{Option, Some, None}
 use Rattle.y4m_lines.specs.Lines.{before, line_at, is_line, fields, none_empty}
 use Rattle.y4m_lines.specs.Header.{is_frame_line}
 use Rattle.y4m_lines.specs.Read.{line_read, frame_line_read}
-use Rattle.y4m_lines.proofs.Fields.{before_take}
+use Rattle.y4m_lines.proofs.Fields.{before_take, before_within}
 
-module _ (s : List ℕ) (at : ℕ) {most end : ℕ} (bound : most ≡ min (length s - at) 256) (found : end ≡ at + min most (length (line_at s at))) where
-  pub line_found : end < at + most → Until end ≡ line_read s at
+-- `end` is the number of bytes before the first byte 10 of the `most` that are looked at
+module _ (s : List ℕ) (at : ℕ) {most end : ℕ} (bound : most ≡ min (length s - at) 256)
+    (found : end ≡ length (before 10 (take most (drop at s)))) where
+  pub line_found : end < most → Some (at + end) ≡ line_read s at
   unfolding is_line
   line_found h =
       let d = length-drop at s in
-      let e : end ≡ at + length (line_at s at) = omega arith in
+      let e : end ≡ length (line_at s at) = omega (arith, found, before_within 10 most (drop at s)) in
       let a : length (line_at s at) < length (drop at s) = omega arith in
       let b : length (line_at s at) + 1 ≤ 256 = omega arith in
       rw (lt-ltb _ _ a, le-leb _ _ b, e)
 
-  pub line_missed : at + most ≤ end → NoLine ≡ line_read s at
+  pub line_missed : most ≤ end → None ≡ line_read s at
   unfolding is_line
   line_missed h = go (below_or_not (length (line_at s at)) (length (drop at s)))
     where
-      go : (length (line_at s at) < length (drop at s)) ⊎ (length (drop at s) ≤ length (line_at s at)) → NoLine ≡ line_read s at
+      go : (length (line_at s at) < length (drop at s)) ⊎ (length (drop at s) ≤ length (line_at s at)) → None ≡ line_read s at
       go (inl l) =
           let d = length-drop at s in
-          let b : 256 < length (line_at s at) + 1 = omega arith in
+          let b : 256 < length (line_at s at) + 1 = omega (arith, found, before_within 10 most (drop at s)) in
           rw (lt-leb _ _ b, and-false (ltb (length (line_at s at)) (length (drop at s))))
       go (inr l) = rw (le-ltb _ _ l)
 
 -- ---- what a caller knows of a line that was read
 
-until : (t : Bool) (a end : ℕ) → cond t (Until a) NoLine ≡ Until end → (t ≡ true) × (end ≡ a)
+until : (t : Bool) (a end : ℕ) → cond t (Some a) None ≡ Some end → (t ≡ true) × (end ≡ a)
 until true a end e = (refl, cc)
 until false a end e = let z : ◌≡◌ {A = ℕ} 0 1 = cc in absurd (omega arith)
 
-no_line : (t : Bool) (a : ℕ) → cond t (Until a) NoLine ≡ NoLine → t ≡ false
+no_line : (t : Bool) (a : ℕ) → cond t (Some a) None ≡ None → t ≡ false
 no_line true a e = let z : ◌≡◌ {A = ℕ} 0 1 = cc in absurd (omega arith)
 no_line false a e = refl
 
-pub line_none : (s : List ℕ) (at : ℕ) {result : Line} → result ≡ line_read s at → result ≡ NoLine → is_line s at ≡ false
+pub line_none : (s : List ℕ) (at : ℕ) {result : Option ℕ} → result ≡ line_read s at → result ≡ None → is_line s at ≡ false
 line_none s at e m = no_line (is_line s at) (at + length (line_at s at)) (sym e ∙ m)
 
 -- the line at a place ends at `end`
@@ -62,7 +63,7 @@ pub record Lined (s : List ℕ) (at end : ℕ) : Type 0 where
   pub place : end ≡ at + length (line_at s at)
   pub text : take (end - at) (drop at s) ≡ line_at s at
 
-pub lined : (s : List ℕ) (at : ℕ) {end : ℕ} {result : Line} → result ≡ line_read s at → result ≡ Until end → Lined s at end
+pub lined : (s : List ℕ) (at : ℕ) {end : ℕ} {result : Option ℕ} → result ≡ line_read s at → result ≡ Some end → Lined s at end
 unfolding is_line
 lined s at {end} e m =
     let u = until (is_line s at) (at + length (line_at s at)) end (sym e ∙ m) in
@@ -78,21 +79,21 @@ lined s at {end} e m =
 
 -- ---- what a caller knows of a frame line that was read
 
-pub frame_missed : (s : List ℕ) (at : ℕ) {result : Line} → result ≡ frame_line_read s at → result ≡ NoLine → is_frame_line s at ≡ false
+pub frame_missed : (s : List ℕ) (at : ℕ) {result : Option ℕ} → result ≡ frame_line_read s at → result ≡ None → is_frame_line s at ≡ false
 frame_missed s at e m = no_line (is_frame_line s at) (at + length (line_at s at)) (sym e ∙ m)
 
-pub frame_lined : (s : List ℕ) (at : ℕ) {end : ℕ} {result : Line} → result ≡ frame_line_read s at → result ≡ Until end
+pub frame_lined : (s : List ℕ) (at : ℕ) {end : ℕ} {result : Option ℕ} → result ≡ frame_line_read s at → result ≡ Some end
     → (is_frame_line s at ≡ true) × Lined s at end
 unfolding is_frame_line
 frame_lined s at {end} e m =
     let u = until (is_frame_line s at) (at + length (line_at s at)) end (sym e ∙ m) in
     let l : is_line s at ≡ true = ((and-eq-true_iff (is_line s at) _).0 u.0).0 in
-    let r : Until end ≡ line_read s at = rw (l, u.1) in
+    let r : Some end ≡ line_read s at = rw (l, u.1) in
     (u.0, lined s at r refl)
 
 -- ---- what reading a frame line answers
 
-pub frame_none : (s : List ℕ) (at : ℕ) → is_line s at ≡ false → NoLine ≡ frame_line_read s at
+pub frame_none : (s : List ℕ) (at : ℕ) → is_line s at ≡ false → None ≡ frame_line_read s at
 unfolding is_frame_line
 frame_none s at e = rw e
 
@@ -101,15 +102,15 @@ module _ {s : List ℕ} {at end : ℕ} (l : Lined s at end) where
   unfolding is_frame_line
   frame_parts = rw l.formed
 
-  pub frame_other : begins_with (line_at s at) frame_word ≡ false → NoLine ≡ frame_line_read s at
+  pub frame_other : begins_with (line_at s at) frame_word ≡ false → None ≡ frame_line_read s at
   frame_other w = rw (frame_parts, w)
 
   module _ (w : begins_with (line_at s at) frame_word ≡ true) where
-    pub frame_longer : (length (before 32 (line_at s at)) ≡ 5 → ⊥) → NoLine ≡ frame_line_read s at
+    pub frame_longer : (length (before 32 (line_at s at)) ≡ 5 → ⊥) → None ≡ frame_line_read s at
     frame_longer f = rw (frame_parts, w, ne_eqb _ _ f)
 
-    pub frame_empty : none_empty (fields (line_at s at)) ≡ false → NoLine ≡ frame_line_read s at
+    pub frame_empty : none_empty (fields (line_at s at)) ≡ false → None ≡ frame_line_read s at
     frame_empty n = rw (frame_parts, w, n, and-false (eqb (length (before 32 (line_at s at))) 5))
 
-    pub frame_formed : length (before 32 (line_at s at)) ≡ 5 → none_empty (fields (line_at s at)) ≡ true → Until end ≡ frame_line_read s at
+    pub frame_formed : length (before 32 (line_at s at)) ≡ 5 → none_empty (fields (line_at s at)) ≡ true → Some end ≡ frame_line_read s at
     frame_formed f n = rw (frame_parts, w, eq-eqb _ _ f, n, l.place)

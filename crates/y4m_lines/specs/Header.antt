@@ -1,6 +1,6 @@
 -- Document 02, slip 2: what the header line says, and when it and a frame line are well formed.
 -- Definitions only.
-use Rattle.std.specs.Prelude.{ℕ, Bool, true, false, cond, ◌&&◌, List, [], ◌∷◌, ◌++◌, eqb, leb, length}
+use Rattle.std.specs.Prelude.{ℕ, Bool, true, false, cond, ◌&&◌, List, [], ◌∷◌, ◌++◌, eqb, leb, length, Option, Some, None}
 use Rattle.sheet_numbers.specs.Numbers.{byte_at, is_digit, decimal, all_below}
 use Rattle.sheet_numbers.specs.Read.{begins_with}
 use Rattle.y4m_text.specs.Words.{header_word, frame_word, c420jpeg, c422, c420p10, c422p10, c420p12, c422p12}
@@ -55,6 +55,10 @@ format_of name =
     (cond (same_text name c422p10) (format 1 10)
     (cond (same_text name c420p12) (format 0 12)
     (cond (same_text name c422p12) (format 1 12) (format 0 0))))))
+
+-- the format that these make; none at the depth 0
+abbrev pub known_format : Format → Option Format
+known_format f = cond (eqb f.depth 0) None (Some f)
 
 -- given at most once
 unfoldable pub is_colour : List (List ℕ) → Bool

@@ -11,7 +11,7 @@ use borrow.Author.Tests.{eqb-true, eqb-false, eq-eqb, ne_eqb, le-leb}
 use lib.Dec.{eqb}
 use lib.ListN.{length}
 use Rattle.yuv_support.specs.declared.Codes.{Codes}
-use Rattle.yuv_support.specs.declared.YuvPlanarImage.{YuvPlanarImage}
+use Rattle.yuv_support.specs.declared.Geometry.{Geometry}
 use Rattle.yuv_support.specs.Blend.{frame_of}
 use Rattle.yuv_support.specs.Picture.{band, band_rows, picture}
 use Rattle.yuv_support.specs.Counts.{clipped_in}
@@ -66,7 +66,7 @@ nineteen first height h = by_case h.even_or_last
     by_case (inl even) = simp (le-leb _ _ h.most, eq-eqb _ _ even)
     by_case (inr last) = simp (le-leb _ _ h.most, eq-eqb _ _ last, or-true)
 
-module _ (known : List ℕ) (codes : Codes) (image : YuvPlanarImage) (y u v : List ℕ) (stride : ℕ) where
+module _ (known : List ℕ) (codes : Codes) (image : Geometry) (y u v : List ℕ) (stride : ℕ) where
   -- where the whole picture is accepted, so is a band of it at a first row, also on another destination of the same length
   band_accepted : (rgb out : List ℕ) (first : ℕ) → length out ≡ length rgb → FirstRow first image.height
       → (answer_to known codes image y u v stride rgb).number ≡ 0 → answer_to_band known codes image y u v stride out first ≡ accepted
@@ -185,7 +185,7 @@ refused_keeps known codes image y u v stride rgb first limit r =
     }
 
 -- where the whole picture is accepted, the band is of all rows; where it is refused, the band is refused too
-module _ (known : List ℕ) (codes : Codes) (image : YuvPlanarImage) (y u v : List ℕ) (stride : ℕ) (rgb : List ℕ) where
+module _ (known : List ℕ) (codes : Codes) (image : Geometry) (y u v : List ℕ) (stride : ℕ) (rgb : List ℕ) where
   accepted_answer : (answer_to known codes image y u v stride rgb).number ≡ 0 → answer_to known codes image y u v stride rgb ≡ accepted
   unfolding answer_to questions_of
   accepted_answer e = all_hold_accepted _ (each_holds (conversion_questions known (request_for codes image y u v stride rgb)) refl e)

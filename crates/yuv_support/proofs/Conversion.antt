@@ -13,7 +13,7 @@ use lib.Dec.{T, eqb, leb}
 use lib.ListN.{length, get_or}
 use Rattle.yuv_support.specs.declared.Codes.{Codes}
 use Rattle.yuv_support.specs.declared.Settings.{Settings}
-use Rattle.yuv_support.specs.declared.YuvPlanarImage.{YuvPlanarImage}
+use Rattle.yuv_support.specs.declared.Geometry.{Geometry}
 use Rattle.yuv_support.specs.Settings.{among, depths, depths8, depths16, max_of, unpacked}
 use Rattle.yuv_support.specs.Blend.{Frame, frame_of}
 use Rattle.yuv_support.specs.Picture.{channels_of, band}
@@ -77,7 +77,7 @@ first_row first height t =
     by_test true e h = inl (eqb-true _ _ e)
     by_test false e h = inr (eqb-true _ _ h)
 
-module _ (known : List ℕ) (within : (d : ℕ) → T (among d known) → T (among d depths)) (codes : Codes) (image : YuvPlanarImage)
+module _ (known : List ℕ) (within : (d : ℕ) → T (among d known) → T (among d depths)) (codes : Codes) (image : Geometry)
     (y u v : List ℕ) (stride : ℕ) (rgb : List ℕ) where
   pub accepted_call : (answer_to known codes image y u v stride rgb).number ≡ 0 → Accepted known (request_for codes image y u v stride rgb)
   unfolding answer_to

@@ -3,7 +3,7 @@
 use Rattle.std.specs.Prelude.{◌≡◌, List, [], ◌∷◌, ℕ, ◌+◌, ◌/◌, ◌≤◌, length}
 use Rattle.yuv_support.specs.declared.Clipped.{Clipped}
 use Rattle.yuv_support.specs.declared.Codes.{Codes}
-use Rattle.yuv_support.specs.declared.YuvPlanarImage.{YuvPlanarImage}
+use Rattle.yuv_support.specs.declared.Geometry.{Geometry}
 use Rattle.yuv_support.specs.Counts.{unclipped, together}
 use Rattle.yuv_support.specs.Conversion.{answer_to, destination_after, clipped_after, answer_to_band, rows_after, destination_after_band, clipped_after_band}
 
@@ -23,7 +23,7 @@ TwoOrMore [] = Unit {0}
 TwoOrMore (limit ∷ limits) = (2 ≤ limit) × TwoOrMore limits
 
 -- one picture with its settings and its destination's stride
-module _ (known : List ℕ) (codes : Codes) (image : YuvPlanarImage) (y u v : List ℕ) (stride : ℕ) where
+module _ (known : List ℕ) (codes : Codes) (image : Geometry) (y u v : List ℕ) (stride : ℕ) where
   -- one call more, at the next first row; nothing else writes
   abbrev pub further : Progress → ℕ → Progress
   further p limit = record {
@@ -64,15 +64,15 @@ module _ (known : List ℕ) (codes : Codes) (image : YuvPlanarImage) (y u v : Li
 -- the theorems: of every call, of every accepted picture, and of every refused call
 abbrev pub WholeAsBand : Type 0
 WholeAsBand =
-    (known : List ℕ) (codes : Codes) (image : YuvPlanarImage) (y u v : List ℕ) (stride : ℕ) (rgb : List ℕ)
+    (known : List ℕ) (codes : Codes) (image : Geometry) (y u v : List ℕ) (stride : ℕ) (rgb : List ℕ)
     → SameAsWhole known codes image y u v stride rgb
 
 abbrev pub BandsTogether : Type 0
 BandsTogether =
-    (known : List ℕ) (codes : Codes) (image : YuvPlanarImage) (y u v : List ℕ) (stride : ℕ) (rgb : List ℕ)
+    (known : List ℕ) (codes : Codes) (image : Geometry) (y u v : List ℕ) (stride : ℕ) (rgb : List ℕ)
     → (answer_to known codes image y u v stride rgb).number ≡ 0 → BandsFinish known codes image y u v stride rgb
 
 abbrev pub RefusedKeeps : Type 0
 RefusedKeeps =
-    (known : List ℕ) (codes : Codes) (image : YuvPlanarImage) (y u v : List ℕ) (stride : ℕ) (rgb : List ℕ) (first limit : ℕ)
+    (known : List ℕ) (codes : Codes) (image : Geometry) (y u v : List ℕ) (stride : ℕ) (rgb : List ℕ) (first limit : ℕ)
     → ((answer_to_band known codes image y u v stride rgb first).number ≡ 0 → ⊥) → RefusedBand known codes image y u v stride rgb first limit

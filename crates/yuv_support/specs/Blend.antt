@@ -6,7 +6,7 @@ use Rattle.yuv_support.specs.declared.YuvChromaSubsampling.TheVariants.{Yuv420, 
 use Rattle.yuv_support.specs.declared.YuvMode.{YuvMode}
 use Rattle.yuv_support.specs.declared.YuvMode.TheVariants.{AsSource, Matched}
 use Rattle.yuv_support.specs.declared.Settings.{Settings}
-use Rattle.yuv_support.specs.declared.YuvPlanarImage.{YuvPlanarImage}
+use Rattle.yuv_support.specs.declared.Geometry.{Geometry}
 use Rattle.yuv_support.specs.Settings.{unpacked}
 
 -- the sides of a picture, and its planes with their strides
@@ -20,7 +20,7 @@ pub record Frame : Type 0 where
   pub v : List ℕ
   pub v_stride : ℕ
 
-abbrev pub frame_of : YuvPlanarImage → List ℕ → List ℕ → List ℕ → Frame
+abbrev pub frame_of : Geometry → List ℕ → List ℕ → List ℕ → Frame
 frame_of i y u v = record {
   width = i.width;
   height = i.height;

@@ -1,4 +1,5 @@
 pub mod Settings
+pub mod Known
 pub mod Coefficients
 pub mod Blend
 pub mod Component

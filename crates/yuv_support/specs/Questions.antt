@@ -4,7 +4,7 @@ use Rattle.std.specs.Prelude.{ℕ, ◌+◌, ◌-◌, ◌*◌, ◌%◌, Bool, con
 use Rattle.yuv_support.specs.declared.YuvChromaSubsampling.{YuvChromaSubsampling}
 use Rattle.yuv_support.specs.declared.Codes.{Codes}
 use Rattle.yuv_support.specs.declared.Settings.{Settings}
-use Rattle.yuv_support.specs.declared.YuvPlanarImage.{YuvPlanarImage}
+use Rattle.yuv_support.specs.declared.Geometry.{Geometry}
 use Rattle.yuv_support.specs.Settings.{sampling_of, order_of, range_of, matrix_of, packing_of, last_packing, mode_of, among}
 use Rattle.yuv_support.specs.Coefficients.{usable}
 use Rattle.yuv_support.specs.Blend.{chroma_width, chroma_height, near_row}
@@ -55,7 +55,7 @@ extent length stride = record { length = length; stride = stride }
 
 pub record Request : Type 0 where
   pub codes : Codes
-  pub image : YuvPlanarImage
+  pub image : Geometry
   pub y_length : ℕ
   pub u_length : ℕ
   pub v_length : ℕ

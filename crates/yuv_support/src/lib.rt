@@ -8,15 +8,19 @@ ghost use Rattle.yuv_support.specs.Settings.{sampling_of, order_of, range_of, ma
 ghost use Rattle.yuv_support.specs.Picture.{channels_of};
 ghost use Rattle.yuv_support.specs.Questions.{decoded};
 
+pub mod known_codes;
+
+use known_codes::MatrixCode;
+
 // Which levels luma and chroma use.
-#[derive(Clone, Copy)]
+#[derive(Clone, Copy, Debug, PartialEq, Eq)]
 pub enum YuvRange {
     Limited,
     Full,
 }
 
 // Six matrices by name, and one that carries its own two weights.
-#[derive(Clone, Copy)]
+#[derive(Clone, Copy, Debug, PartialEq)]
 pub enum YuvStandardMatrix {
     Bt601,
     Bt709,
@@ -27,14 +31,14 @@ pub enum YuvStandardMatrix {
     Custom(f32, f32),
 }
 
-#[derive(Clone, Copy)]
+#[derive(Clone, Copy, Debug, PartialEq, Eq)]
 pub enum YuvChromaSubsampling {
     Yuv420,
     Yuv422,
 }
 
 // The letters of a pixel, in their order.
-#[derive(Clone, Copy)]
+#[derive(Clone, Copy, Debug, PartialEq, Eq)]
 pub enum YuvSourceChannels {
     Rgb,
     Rgba,
@@ -42,29 +46,42 @@ pub enum YuvSourceChannels {
     Bgr,
 }
 
+impl YuvSourceChannels {
+    // The number of letters in the order's name.
+    #[tactic(auto, unfolding(crate::specs::Picture::letters_of, crate::specs::Picture::channels_of))]
+    pub fn get_channels_count(self) -> usize
+        ensures { result ≡ channels_of self }
+    {
+        match self {
+            YuvSourceChannels::Rgb | YuvSourceChannels::Bgr => 3,
+            YuvSourceChannels::Rgba | YuvSourceChannels::Bgra => 4,
+        }
+    }
+}
+
 // Which bits of its element a sample stands in: the low ones or the high ones.
-#[derive(Clone, Copy)]
+#[derive(Clone, Copy, Debug, PartialEq, Eq)]
 pub enum YuvBytesPacking {
     LeastSignificantBytes,
     MostSignificantBytes,
 }
 
 // Two departures of the source, kept or put right: the two-row tail of Cr, and `Smpte240` at 8 bits.
-#[derive(Clone, Copy)]
+#[derive(Clone, Copy, Debug, PartialEq, Eq)]
 pub enum YuvMode {
     AsSource,
     Matched,
 }
 
 // The weights kr and kb of a matrix.
-#[derive(Clone, Copy)]
+#[derive(Clone, Copy, Debug, PartialEq)]
 pub struct YuvBias {
     pub kr: f32,
     pub kb: f32,
 }
 
 // The five coefficients before they are scaled by 8192 and rounded.
-#[derive(Clone, Copy)]
+#[derive(Clone, Copy, Debug, PartialEq)]
 pub struct InverseTransformF32 {
     pub y: f32,
     pub cr: f32,
@@ -74,7 +91,7 @@ pub struct InverseTransformF32 {
 }
 
 // The five whole-number coefficients, times 8192.
-#[derive(Clone, Copy)]
+#[derive(Clone, Copy, Debug, PartialEq, Eq)]
 pub struct CbCrInverseTransform {
     pub y: u32,
     pub cr: u32,
@@ -84,7 +101,7 @@ pub struct CbCrInverseTransform {
 }
 
 // The biases and the ranges of luma and chroma at a depth and a range.
-#[derive(Clone, Copy)]
+#[derive(Clone, Copy, Debug, PartialEq, Eq)]
 pub struct YuvChromaRange {
     pub bias_y: u16,
     pub bias_uv: u16,
@@ -92,9 +109,9 @@ pub struct YuvChromaRange {
     pub range_uv: u16,
 }
 
-// The codes and weights that a conversion is asked with.
+// The codes and weights that a conversion is asked with: numbers, since C callers give them.
 #[repr(C)]
-#[derive(Clone, Copy)]
+#[derive(Clone, Copy, Debug, PartialEq)]
 pub struct Codes {
     pub depth: u32,
     pub sampling: u32,
@@ -107,8 +124,8 @@ pub struct Codes {
     pub kb: f32,
 }
 
-// The settings of a conversion, decoded.
-#[derive(Clone, Copy)]
+// The settings of a conversion, decoded. The depth stays a number, since samples and ranges are computed from it.
+#[derive(Clone, Copy, Debug, PartialEq)]
 pub struct Settings {
     pub depth: u32,
     pub sampling: YuvChromaSubsampling,
@@ -119,10 +136,10 @@ pub struct Settings {
     pub mode: YuvMode,
 }
 
-// The sides of a picture and the strides of its planes, which stand beside it as slices.
+// The sides of a picture and the strides of its planes, as C callers give them; the planes are slices beside it.
 #[repr(C)]
-#[derive(Clone, Copy)]
-pub struct YuvPlanarImage {
+#[derive(Clone, Copy, Debug, PartialEq, Eq)]
+pub struct Geometry {
     pub width: u32,
     pub height: u32,
     pub y_stride: u32,
@@ -131,53 +148,38 @@ pub struct YuvPlanarImage {
 }
 
 // How many components of pixels lay below 0, and how many above the largest code, before they were clamped.
-#[derive(Clone, Copy)]
+#[derive(Clone, Copy, Debug, PartialEq, Eq)]
 pub struct Clipped {
     pub below: u32,
     pub above: u32,
 }
 
+// ---- what a code stands for that the questions let through; any other has the last meaning, which is never used
+
 pub fn sampling_of(code: u32) -> YuvChromaSubsampling
     ensures { result ≡ sampling_of code }
 {
-    match code {
-        0 => YuvChromaSubsampling::Yuv420,
-        _ => YuvChromaSubsampling::Yuv422,
-    }
+    YuvChromaSubsampling::try_from(code).unwrap_or(YuvChromaSubsampling::Yuv422)
 }
 
 pub fn order_of(code: u32) -> YuvSourceChannels
     ensures { result ≡ order_of code }
 {
-    match code {
-        0 => YuvSourceChannels::Rgb,
-        1 => YuvSourceChannels::Rgba,
-        2 => YuvSourceChannels::Bgra,
-        _ => YuvSourceChannels::Bgr,
-    }
+    YuvSourceChannels::try_from(code).unwrap_or(YuvSourceChannels::Bgr)
 }
 
 pub fn range_of(code: u32) -> YuvRange
     ensures { result ≡ range_of code }
 {
-    match code {
-        0 => YuvRange::Limited,
-        _ => YuvRange::Full,
-    }
+    YuvRange::try_from(code).unwrap_or(YuvRange::Full)
 }
 
 pub fn matrix_of(code: u32, kr: f32, kb: f32) -> YuvStandardMatrix
     ensures { result ≡ matrix_of code kr kb }
 {
-    match code {
-        0 => YuvStandardMatrix::Bt601,
-        1 => YuvStandardMatrix::Bt709,
-        2 => YuvStandardMatrix::Bt2020,
-        3 => YuvStandardMatrix::Smpte240,
-        4 => YuvStandardMatrix::Bt470_6,
-        5 => YuvStandardMatrix::Fcc,
-        _ => YuvStandardMatrix::Custom(kr, kb),
-    }
+    YuvStandardMatrix::try_from(MatrixCode { code, kr, kb }).unwrap_or(YuvStandardMatrix::Custom(
+        kr, kb,
+    ))
 }
 
 pub fn packing_of(code: u32) -> YuvBytesPacking
@@ -192,30 +194,21 @@ pub fn packing_of(code: u32) -> YuvBytesPacking
 pub fn mode_of(code: u32) -> YuvMode
     ensures { result ≡ mode_of code }
 {
-    match code {
-        0 => YuvMode::AsSource,
-        _ => YuvMode::Matched,
-    }
+    YuvMode::try_from(code).unwrap_or(YuvMode::Matched)
 }
 
 // The settings that the codes stand for. Codes that questions 1 and 2 refuse stand for none.
 pub fn decode(codes: Codes) -> Settings
     ensures { result ≡ decoded codes }
 {
-    let sampling = sampling_of(codes.sampling);
-    let order = order_of(codes.order);
-    let range = range_of(codes.range);
-    let matrix = matrix_of(codes.matrix, codes.kr, codes.kb);
-    let packing = packing_of(codes.packing);
-    let mode = mode_of(codes.mode);
     Settings {
         depth: codes.depth,
-        sampling,
-        order,
-        range,
-        matrix,
-        packing,
-        mode,
+        sampling: sampling_of(codes.sampling),
+        order: order_of(codes.order),
+        range: range_of(codes.range),
+        matrix: matrix_of(codes.matrix, codes.kr, codes.kb),
+        packing: packing_of(codes.packing),
+        mode: mode_of(codes.mode),
     }
 }
 
@@ -223,83 +216,43 @@ pub fn decode(codes: Codes) -> Settings
 pub fn is_depth(depth: u32) -> bool
     ensures { result ≡ among depth depths }
 {
-    if depth == 8 {
-        return true;
-    }
-    if depth == 10 {
-        return true;
-    }
-    depth == 12
+    depth == 8 || depth == 10 || depth == 12
 }
 
 // The last packing that is known at a depth: a byte has no high bits to spare.
 pub fn last_packing(depth: u32) -> u32
     ensures { result ≡ last_packing depth }
 {
-    if depth == 8 {
-        return 0;
-    }
-    1
-}
-
-// The number of letters in the order's name.
-pub fn get_channels_count(order: YuvSourceChannels) -> usize
-    ensures { result ≡ channels_of order }
-{
-    match order {
-        YuvSourceChannels::Rgb => 3,
-        YuvSourceChannels::Rgba => 4,
-        YuvSourceChannels::Bgra => 4,
-        YuvSourceChannels::Bgr => 3,
-    }
+    if depth == 8 { 0 } else { 1 }
 }
 
 // M, the largest sample of a depth.
+#[tactic(auto, unfolding(crate::specs::Settings::max_of))]
 pub fn max_of(depth: u32) -> u16
     requires { T (among depth depths) }
     ensures { result ≡ max_of depth }
 {
-    if depth == 8 {
-        return 255;
-    }
-    if depth == 10 {
-        return 1023;
-    }
-    4095
-}
-
-// How many codes of a depth make one of 8 bits.
-fn codes_per_step(depth: u32) -> u16
-    requires { T (among depth depths) }
-    ensures { (result ≡ 2 ^ (depth - 8)) × (0 < result) × (result ≤ 16) }
-{
-    if depth == 8 {
-        return 1;
-    }
-    if depth == 10 {
-        return 4;
-    }
-    16
+    (1 << depth) - 1
 }
 
 // The biases and ranges at a depth.
+#[tactic(auto, unfolding(crate::specs::Settings::max_of, crate::specs::Settings::bias_y, crate::specs::Settings::bias_c, crate::specs::Settings::range_y, crate::specs::Settings::range_c))]
 pub fn get_yuv_range(depth: u32, range: YuvRange) -> YuvChromaRange
     requires { T (among depth depths) }
     ensures { result ≡ chroma_range_of depth range }
 {
-    let scale = codes_per_step(depth);
     match range {
         YuvRange::Limited => YuvChromaRange {
-            bias_y: 16 * scale,
-            bias_uv: 128 * scale,
-            range_y: 219 * scale,
-            range_uv: 224 * scale,
+            bias_y: 16 << (depth - 8),
+            bias_uv: 1 << (depth - 1),
+            range_y: 219 << (depth - 8),
+            range_uv: 224 << (depth - 8),
         },
         YuvRange::Full => YuvChromaRange {
             bias_y: 0,
-            bias_uv: 128 * scale,
-            range_y: 256 * scale - 1,
-            range_uv: 256 * scale - 1,
+            bias_uv: 1 << (depth - 1),
+            range_y: max_of(depth),
+            range_uv: max_of(depth),
         },
     }
 }

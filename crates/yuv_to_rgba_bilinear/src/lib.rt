@@ -1,105 +1,56 @@
-// Planar Y, Cb, Cr with byte samples to RGB, RGBA, BGRA or BGR, with bilinear chroma: the public conversion of a band of rows, and of the
-// whole picture. Nothing is asked of the caller. A call that a question refuses changes no buffer; an accepted one leaves the finished rows.
+// Planar Y, Cb, Cr to RGB, RGBA, BGRA or BGR, with bilinear chroma: the public conversion of a band of rows, and of the whole picture, of byte
+// samples and of u16 samples of 10 or 12 bits in the low or in the high bits. Nothing is asked of the caller. A call that a question refuses
+// changes no buffer; an accepted one leaves the finished rows.
 #![tactic(auto)]
 
-ghost use Rattle.std.specs.Prelude.{◌≡◌, ◌+◌, ◌≤◌};
-ghost use Rattle.yuv_support.specs.Settings.{depths8, among};
-ghost use Rattle.yuv_support.specs.Blend.{frame_of};
-ghost use Rattle.yuv_support.specs.Picture.{band};
-ghost use Rattle.yuv_support.specs.Counts.{clipped_in};
-ghost use Rattle.yuv_support.specs.Questions.{decoded};
-ghost use Rattle.yuv_support.specs.Distance.{AnySamples};
-ghost use Rattle.yuv_support.specs.Conversion.{answer_to, clipped_after, destination_after, Demand3After, answer_to_band, rows_after, clipped_after_band, destination_after_band, Demand3AfterBand};
-ghost use Rattle.yuv_error.specs.Told.{as_report, reported, as_band_report, band_reported};
+ghost use Rattle.std.specs.Prelude.{◌≡◌};
+ghost use Rattle.yuv_error.specs.Told.{answered, clipped_of, band_clipped_of, rows_of};
+ghost use Rattle.yuv_to_rgba_bilinear.specs.Lent.{answer_of, clipped_of_picture, finished_picture, FaithfulPicture, band_answer_of, rows_of_band, clipped_of_band, finished_band, FaithfulRows};
 
-use images::Lengths;
-use yuv_error::{Converted, ConvertedBand};
-use yuv_support::{Clipped, Codes, YuvPlanarImage};
-
-// Whether a depth is known with u8 planes.
-fn is_known_depth(depth: u32) -> bool
-    ensures { result ≡ among depth depths8 }
-{
-    depth == 8
-}
-
-// `count` rows of an accepted call, from row `first` on.
-fn convert(
-    codes: Codes,
-    image: YuvPlanarImage,
-    y: &[u8],
-    u: &[u8],
-    v: &[u8],
-    rgb: &mut [u8],
-    rgb_stride: u32,
-    first: u32,
-    count: u32,
-) -> Clipped
-    requires accepted { (answer_to depths8 codes image y.now u.now v.now rgb_stride rgb.old).number ≡ 0 }
-    requires rows_exist { first + count ≤ image.height }
-    ensures destination { rgb.new ≡ band (decoded codes) (frame_of image y.now u.now v.now) rgb_stride first count rgb.old }
-    ensures counts { result ≡ clipped_in (decoded codes) (frame_of image y.now u.now v.now) first count }
-{
-    let s = yuv_support::decode(codes);
-    let k = kernel::settings_kernel(s);
-    convert8::convert_rows(rgb, y, u, v, s, image, rgb_stride, k, first, count)
-}
+use elements::Element;
+use images::YuvPlanarImage;
+use yuv_error::{Band, YuvError};
+use yuv_support::{Clipped, Codes};
 
 // A band: rows from row `first` on, at most `limit` of them, an even number unless they reach the last row. Codes, sides and strides are judged
-// with the lengths of the four buffers by questions 1 to 13 and then 19, in that order; the first "no" is the answer. Strides count elements.
-// Buffers may be longer than needed; what is not a pixel of these rows is kept.
-pub fn yuv_to_rgbx_band(
+// with the lengths of the four buffers by questions 1 to 13 and then 19, in that order; the first "no" is the error. Strides count elements.
+// Buffers may be longer than needed; what is not a pixel of these rows is kept. The distance asks that u16 samples in the low bits lie within
+// the depth, and nothing of bytes and of samples in the high bits.
+pub fn yuv_to_rgbx_band<S: Element>(
+    image: &YuvPlanarImage<'_, S>,
     codes: Codes,
-    image: YuvPlanarImage,
-    y: &[u8],
-    u: &[u8],
-    v: &[u8],
-    rgb: &mut [u8],
+    rgb: &mut [S],
     rgb_stride: u32,
     first: u32,
     limit: u32,
-) -> ConvertedBand
-    ensures answer { band_reported result ≡ as_band_report (answer_to_band depths8 codes image y.now u.now v.now rgb_stride rgb.old first) (clipped_after_band depths8 codes image y.now u.now v.now rgb_stride rgb.old first limit) first (rows_after depths8 codes image y.now u.now v.now rgb_stride rgb.old first limit) }
-    ensures destination { rgb.new ≡ destination_after_band depths8 codes image y.now u.now v.now rgb_stride rgb.old first limit }
-    ensures faithful { Demand3AfterBand AnySamples depths8 codes image y.now u.now v.now rgb_stride rgb.old first limit rgb.new }
+) -> Result<Band, YuvError>
+    ensures answer { answered result ≡ band_answer_of S.numbers S.known codes image.now rgb_stride rgb.old first }
+    ensures rows { rows_of result ≡ rows_of_band S.numbers S.known codes image.now rgb_stride rgb.old first limit }
+    ensures counts { band_clipped_of result ≡ clipped_of_band S.numbers S.known codes image.now rgb_stride rgb.old first limit }
+    ensures destination { S.numbers rgb.new ≡ finished_band S.numbers S.known codes image.now rgb_stride rgb.old first limit }
+    ensures faithful { FaithfulRows S.asked S.numbers S.known codes image.now rgb_stride rgb.old first limit rgb.new }
 {
-    let lengths = Lengths {
-        y: y.len() as u64,
-        u: u.len() as u64,
-        v: v.len() as u64,
-        rgb: rgb.len() as u64,
-    };
-    let known = is_known_depth(codes.depth);
-    let answer = images::check_band(codes, image, lengths, rgb_stride, known, first);
-    if yuv_error::is_accepted(answer) {
-        let rows = images::band_rows(image.height, first, limit);
-        let next = first + rows;
-        let clipped = convert(codes, image, y, u, v, rgb, rgb_stride, first, rows);
-        let converted = Converted { answer, clipped };
-        return ConvertedBand {
-            converted,
-            rows,
-            next,
-        };
-    }
-    yuv_error::refused_band(answer, first)
+    let s = image.check_band(codes, rgb.len(), rgb_stride, first)?;
+    let rows = images::band_rows(image.height, first, limit);
+    S::samples_fit(image.y_plane);
+    S::samples_fit(image.u_plane);
+    S::samples_fit(image.v_plane);
+    let clipped = S::convert_rows_of(rgb, image, s, rgb_stride, first, rows);
+    Ok(Band { rows, clipped })
 }
 
 // The whole picture: the band from row 0 with the height as limit. Questions 1 to 13 are asked; 19 holds of row 0.
-pub fn yuv_to_rgbx_bilinear(
+pub fn yuv_to_rgbx_bilinear<S: Element>(
+    image: &YuvPlanarImage<'_, S>,
     codes: Codes,
-    image: YuvPlanarImage,
-    y: &[u8],
-    u: &[u8],
-    v: &[u8],
-    rgb: &mut [u8],
+    rgb: &mut [S],
     rgb_stride: u32,
-) -> Converted
-    ensures answer { reported result ≡ as_report (answer_to depths8 codes image y.now u.now v.now rgb_stride rgb.old) (clipped_after depths8 codes image y.now u.now v.now rgb_stride rgb.old) }
-    ensures destination { rgb.new ≡ destination_after depths8 codes image y.now u.now v.now rgb_stride rgb.old }
-    ensures faithful { Demand3After AnySamples depths8 codes image y.now u.now v.now rgb_stride rgb.old rgb.new }
+) -> Result<Clipped, YuvError>
+    ensures answer { answered result ≡ answer_of S.numbers S.known codes image.now rgb_stride rgb.old }
+    ensures counts { clipped_of result ≡ clipped_of_picture S.numbers S.known codes image.now rgb_stride rgb.old }
+    ensures destination { S.numbers rgb.new ≡ finished_picture S.numbers S.known codes image.now rgb_stride rgb.old }
+    ensures faithful { FaithfulPicture S.asked S.numbers S.known codes image.now rgb_stride rgb.old rgb.new }
 {
-    let height = image.height;
-    let all = yuv_to_rgbx_band(codes, image, y, u, v, rgb, rgb_stride, 0, height);
-    all.converted
+    let band = yuv_to_rgbx_band(image, codes, rgb, rgb_stride, 0, image.height)?;
+    Ok(band.clipped)
 }

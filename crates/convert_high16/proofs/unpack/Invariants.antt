@@ -1,4 +1,3 @@
-use Prim.Native.Nat.{◌-◌}
 use lib.ListN.{length}
 use Rattle.yuv_support.proofs.Copy.{Copied}
 use Rattle.convert_high16.specs.Held.{divided_by}
@@ -6,6 +5,3 @@ use Rattle.convert_high16.proofs.unpack.Given as goal
 
 abbrev pub invariant-loop-i : goal.invariant-loop-i
 invariant-loop-i l = Copied (divided_by l.shift l.part) l.initial.samples (length l.part) l.samples l.i
-
-abbrev pub decreases-loop-i : goal.decreases-loop-i
-decreases-loop-i l = length l.part - l.i

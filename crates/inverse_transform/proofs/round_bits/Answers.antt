@@ -4,7 +4,7 @@ use Prim.Native.Nat.{ℕ, ◌+◌, ◌-◌, ◌/◌, ◌%◌}
 use native.Mathlib.Omega.{arith}
 use lib.Ieee.{binary32, of_fields}
 use Rattle.yuv_support.specs.Coefficients.{round_away}
-use Rattle.inverse_transform.proofs.Rounding.{small, middle, large, sign_set, sign_clear, fields_of_number}
+use Rattle.inverse_transform.proofs.Rounding.{small, middle, large, whole, sign_set, sign_clear, fields_of_number}
 use Rattle.inverse_transform.proofs.round_bits.Goals as goal
 
 pub returns-then-bits-ge2147483648 : goal.returns-then-bits-ge2147483648
@@ -29,4 +29,4 @@ returns c =
     (ap round_away (sign_clear b c.if-bits-ge2147483648.false)
     ∙ ap (λ (x : ℕ). round_away (of_fields binary32 false x (b % 8388608))) (sym e)
     ∙ middle (b / 8388608 - 126) (b % 8388608) (omega arith) (omega arith)
-    ∙ rw c.power.ensures)
+    ∙ whole (b / 8388608 - 126) (b % 8388608) (omega arith) (omega arith))

@@ -8,4 +8,4 @@ kernel_of-requires c = record { known_depth = c.requires.0; narrow = rw c.search
 
 pub returns : goal.returns
 unfolding kernel_of
-returns c = c.kernel_of.ensures ∙ rw (c.is_red_first.ensures, c.search_inverse_transform-t.ensures)
+returns c = c.kernel_of.ensures ∙ rw c.search_inverse_transform-t.ensures

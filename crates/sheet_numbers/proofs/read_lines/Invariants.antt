@@ -1,9 +1,5 @@
 use Rattle.sheet_numbers.proofs.ManyNumbers.{Reading}
-use Prim.Native.Nat.{◌-◌}
 use Rattle.sheet_numbers.proofs.read_lines.Given as goal
 
 abbrev pub invariant-loop-i : goal.invariant-loop-i
 invariant-loop-i l = Reading l.s l.at l.width l.limit l.n l.initial.numbers l.numbers l.place l.i
-
-abbrev pub decreases-loop-i : goal.decreases-loop-i
-decreases-loop-i l = l.n - l.i

@@ -1,7 +1,5 @@
-use native.Mathlib.Nat.{zero-add}
-use native.Mathlib.Omega.{arith}
-use Rattle.sheet_writing.proofs.Write.{wrote_one}
+use Rattle.sheet_writing.proofs.Write.{copied_to}
 use Rattle.y4m.proofs.put.Goals as goal
 
-pub loop-i-preserved : goal.loop-i-preserved
-loop-i-preserved c = (omega arith, rw (zero-add c.loop-i.i) at (wrote_one _ c.loop-i.invariant.1 c.loop-i-test.true))
+pub returns : goal.returns
+returns c = rw c.copy_from_slice.ensures.after (copied_to c.args.text.now c.args.out.now c.requires)

@@ -1,10 +1,9 @@
-use Rattle.y4m_lines.proofs.Fields.{NotYet}
-use Prim.Native.Nat.{◌-◌}
-use lib.ListN.{length}
+use Rattle.std.proofs.Common.{◌≡◌, length, drop}
+use Rattle.y4m_lines.specs.Lines.{fields, none_empty}
 use Rattle.y4m_lines.proofs.none_empty.Given as goal
 
-abbrev pub invariant-loop-at : goal.invariant-loop-at
-invariant-loop-at l = NotYet l.line l.at
-
-abbrev pub decreases-loop-at : goal.decreases-loop-at
-decreases-loop-at l = length l.line - l.at
+abbrev pub invariant-loop-field : goal.invariant-loop-field
+invariant-loop-field l =
+    (goal.iterator-loop-field).can_next l.field-iterator
+    × (goal.iterator-loop-field).is_finite l.field-iterator
+    × (none_empty (fields l.line) ≡ none_empty (drop (length l.yielded) (fields l.line)))

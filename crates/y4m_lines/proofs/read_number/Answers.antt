@@ -1,22 +1,22 @@
-use mathlib.Core.Path.{◌≡◌, sym, ◌∙◌}
-use mathlib.Core.Bool.{true}
-use Rattle.sheet_numbers.specs.Numbers.{byte_at, is_digit}
-use Rattle.y4m_lines.proofs.HeaderLaws.{digits_none, digits_one, digits_missed, digits_all, no_digits}
+use Rattle.std.proofs.Common.{◌∙◌, sym, refl}
+use borrow.Author.Tests.{eqb-true, eqb-false}
+use Rattle.y4m_lines.proofs.Numbers.{digits_none, digits_one, digits_missed, digits_all, no_digits}
 use Rattle.y4m_lines.proofs.read_number.Goals as goal
 
-pub returns-then-text-eq0 : goal.returns-then-text-eq0
-returns-then-text-eq0 c = no_digits _ c.if-text-eq0.true
+pub returns-then-is_empty : goal.returns-then-is_empty
+returns-then-is_empty c = no_digits _ (eqb-true _ 0 (sym c.is_empty.ensures ∙ c.if-is_empty.true))
 
-pub loop-i-init : goal.loop-i-init
-loop-i-init c = digits_none _
+pub loop-byte-init : goal.loop-byte-init
+loop-byte-init c = digits_none _
 
-pub returns-then-not-is_digit : goal.returns-then-not-is_digit
-returns-then-not-is_digit c = digits_missed _ c.loop-i-test.true (sym c.is_digit.ensures ∙ c.if-not-is_digit.true)
+pub returns-then-not-is_ascii_digit : goal.returns-then-not-is_ascii_digit
+returns-then-not-is_ascii_digit c =
+    digits_missed _ c.loop-byte-test.true refl (sym c.is_ascii_digit.ensures.value ∙ c.if-not-is_ascii_digit.true)
 
-pub loop-i-preserved : goal.loop-i-preserved
-loop-i-preserved c =
-    let a_digit : is_digit (byte_at c.args.text.now c.loop-i.i) ≡ true = sym c.is_digit.ensures ∙ c.if-not-is_digit.false in
-    rw c.cap-value.ensures (digits_one c.loop-i.invariant c.loop-i-test.true a_digit)
+pub loop-byte-preserved : goal.loop-byte-preserved
+loop-byte-preserved c =
+    digits_one c.loop-byte.invariant c.loop-byte-test.true refl (sym c.is_ascii_digit.ensures.value ∙ c.if-not-is_ascii_digit.false)
+    c.cap-value.ensures
 
 pub returns : goal.returns
-returns c = digits_all c.loop-i.invariant c.loop-i-test.false c.if-text-eq0.false
+returns c = digits_all c.loop-byte.invariant c.loop-byte-test.false (eqb-false _ 0 (sym c.is_empty.ensures ∙ c.if-is_empty.false))

@@ -1,93 +1,114 @@
-use mathlib.Core.Path.{◌≡◌, sym, ◌∙◌}
-use Prim.Native.Nat.{◌+◌, ◌≤◌}
-use native.Mathlib.Omega.{arith}
-use lib.Dec.{T}
-use Rattle.yuv_support.specs.Settings.{among, depths8}
+use Rattle.std.proofs.Common.{◌≡◌, ℕ, ◌+◌, ◌≤◌, refl, sym, ap, ◌∙◌, T, rules}
+use Rattle.yuv_support.specs.declared.Clipped.{Clipped}
+use Rattle.yuv_support.specs.Settings.{among}
 use Rattle.yuv_support.specs.Blend.{frame_of}
-use Rattle.yuv_support.specs.Questions.{decoded}
-use Rattle.yuv_support.specs.Distance.{AnySamples, WithinDepth}
-use Rattle.yuv_support.specs.Conversion.{answer_to, answer_to_band}
-use Rattle.yuv_support.proofs.Conversion.{FirstRow, accepted_call, depth_of_8, bytes_within}
+use Rattle.yuv_support.specs.Questions.{accepted, decoded}
+use Rattle.yuv_support.specs.Distance.{WithinDepth}
+use Rattle.yuv_support.proofs.Packing.{low_at_8}
+use Rattle.yuv_support.proofs.Conversion.{accepted_call}
 use Rattle.yuv_support.proofs.Bands.{rowed}
-use Rattle.yuv_error.specs.declared.BandReport.{BandReport}
-use Rattle.yuv_error.specs.Told.{told, band_numbers}
-use Rattle.kernel.proofs.Accepted.{band_of_accepted, converted, untouched}
+use Rattle.kernel.proofs.Accepted.{accepted_ready, band_of_accepted, converted}
+use Rattle.images.specs.Lent.{geometry}
+use Rattle.yuv_to_rgba_bilinear.proofs.Lent.{band_told}
+use Rattle.yuv_to_rgba_bilinear.proofs.RefusedCall.{refused, kept}
 use Rattle.yuv_to_rgba_bilinear.proofs.yuv_to_rgbx_band.Goals as goal
 
--- the answer is the verdict of the definition
-answer : (c : goal.Then-is_accepted) → let a = c.args in told c.check_band-answer.result ≡ answer_to_band depths8 a.codes a.image a.y.now a.u.now a.v.now a.rgb_stride a.rgb.now a.first
-unfolding answer_to_band
-answer c =
-    c.check_band-answer.ensures ∙ rw c.is_known_depth-known.ensures
-
--- the answer is the verdict of the definition
-answer-2 : (c : goal.After-band_rows-rows) → let a = c.args in told c.check_band-answer.result ≡ answer_to_band depths8 a.codes a.image a.y.now a.u.now a.v.now a.rgb_stride a.rgb.now a.first
-unfolding answer_to_band
-answer-2 c =
-    c.check_band-answer.ensures ∙ rw c.is_known_depth-known.ensures
-
--- the answer is the verdict of the definition
-answer-3 : (c : goal.After-convert-arg-1) → let a = c.args in told c.check_band-answer.result ≡ answer_to_band depths8 a.codes a.image a.y.now a.u.now a.v.now a.rgb_stride a.rgb.now a.first
-unfolding answer_to_band
-answer-3 c =
-    c.check_band-answer.ensures ∙ rw c.is_known_depth-known.ensures
-
--- the answer is the verdict of the definition
-answer-4 : (c : goal.After-slice_known-then-is_accepted-1) → let a = c.args in told c.check_band-answer.result ≡ answer_to_band depths8 a.codes a.image a.y.now a.u.now a.v.now a.rgb_stride a.rgb.now a.first
-unfolding answer_to_band
-answer-4 c =
-    c.check_band-answer.ensures ∙ rw c.is_known_depth-known.ensures
-
--- the answer is the verdict of the definition
-answer-5 : (c : goal.After-refused_band) → let a = c.args in told c.check_band-answer.result ≡ answer_to_band depths8 a.codes a.image a.y.now a.u.now a.v.now a.rgb_stride a.rgb.now a.first
-unfolding answer_to_band
-answer-5 c =
-    c.check_band-answer.ensures ∙ rw c.is_known_depth-known.ensures
-
 pub band_rows-rows-requires : goal.band_rows-rows-requires
-band_rows-rows-requires c =
-    let accepted : let a = c.args in ((answer_to depths8 a.codes a.image a.y.now a.u.now a.v.now a.rgb_stride a.rgb.now).number ≡ 0) × FirstRow a.first a.image.height = let a = c.args in
-    band_of_accepted depths8 depth_of_8 a.codes a.image a.y.now a.u.now a.v.now a.rgb_stride a.rgb.now a.first (told c.check_band-answer.result) (answer c)
-    (sym c.is_accepted.ensures ∙ c.if-is_accepted.true) in
-    accepted.1.most
-
-pub overflow_add-next : goal.overflow_add-next
-overflow_add-next c =
-    let accepted : let a = c.args in ((answer_to depths8 a.codes a.image a.y.now a.u.now a.v.now a.rgb_stride a.rgb.now).number ≡ 0) × FirstRow a.first a.image.height = let a = c.args in
-    band_of_accepted depths8 depth_of_8 a.codes a.image a.y.now a.u.now a.v.now a.rgb_stride a.rgb.now a.first (told c.check_band-answer.result) (answer-2 c)
-    (sym c.is_accepted.ensures ∙ c.if-is_accepted.true) in
-    let below : let a = c.args in a.first + c.band_rows-rows.result ≤ a.image.height = rw c.band_rows-rows.ensures (rowed _ _ _ accepted.1).after.most in
+band_rows-rows-requires g c =
     let a = c.args in
-    omega (arith, below, (accepted_call depths8 depth_of_8 a.codes a.image a.y.now a.u.now a.v.now a.rgb_stride a.rgb.now accepted.0).height_most)
+    let n = g.S.Sample.numbers in
+    let i = a.image.now in
+    let e = sym (c.in_ok-s.ensures.answer ∙ band_told g.met.S.Sample.numbers_are g.S.Depths.known a.codes i a.rgb_stride a.rgb.now a.first) in
+    (band_of_accepted g.S.Depths.known g.met.S.Element.among_depths a.codes (geometry i) (n i.y_plane.now) (n i.u_plane.now) (n i.v_plane.now) a.rgb_stride (n a.rgb.now) a.first accepted (sym e) refl).1.most
 
-pub convert-clipped-requires : goal.convert-clipped-requires
-convert-clipped-requires c =
-    let accepted : let a = c.args in ((answer_to depths8 a.codes a.image a.y.now a.u.now a.v.now a.rgb_stride a.rgb.now).number ≡ 0) × FirstRow a.first a.image.height = let a = c.args in
-    band_of_accepted depths8 depth_of_8 a.codes a.image a.y.now a.u.now a.v.now a.rgb_stride a.rgb.now a.first (told c.check_band-answer.result) (answer-3 c)
-    (sym c.is_accepted.ensures ∙ c.if-is_accepted.true) in
-    let below : let a = c.args in a.first + c.band_rows-rows.result ≤ a.image.height = rw c.band_rows-rows.ensures (rowed _ _ _ accepted.1).after.most in
-    record { accepted = accepted.0; rows_exist = omega (arith, below) }
-
-pub returns-then-is_accepted : goal.returns-then-is_accepted
-returns-then-is_accepted c =
-    let enough : let a = c.args in T (among a.codes.depth depths8) → AnySamples (decoded a.codes) (frame_of a.image a.y.now a.u.now a.v.now) → WithinDepth (decoded a.codes) (frame_of a.image a.y.now a.u.now a.v.now) = λ d _. bytes_within _ _ d
-    (λ i. omega (arith, c.type_inv.y i))
-    (λ i. omega (arith, c.type_inv.u i))
-    (λ i. omega (arith, c.type_inv.v i)) in
+pub convert_rows_of-clipped-requires : goal.convert_rows_of-clipped-requires
+convert_rows_of-clipped-requires g c =
     let a = c.args in
-    let whole = converted depths8 depth_of_8 a.codes a.image a.y.now a.u.now a.v.now a.rgb_stride a.rgb.now a.first (told c.check_band-answer.result) (answer-4 c) a.limit AnySamples enough BandReport band_numbers
-    (sym c.is_accepted.ensures ∙ c.if-is_accepted.true)
-    c.band_rows-rows.result c.band_rows-rows.ensures
-    c.convert-clipped.result c.convert-clipped.ensures.counts c.convert-clipped.new.rgb c.convert-clipped.ensures.destination in
-    record { answer = whole.0; destination = whole.1.0; faithful = whole.1.1 }
+    let n = g.S.Sample.numbers in
+    let i = a.image.now in
+    let known = g.S.Depths.known in
+    let among_depths = g.met.S.Element.among_depths in
+    let e = c.in_ok-s.ensures.answer ∙ band_told g.met.S.Sample.numbers_are known a.codes i a.rgb_stride a.rgb.now a.first in
+    let held = band_of_accepted known among_depths a.codes (geometry i) (n i.y_plane.now) (n i.u_plane.now) (n i.v_plane.now) a.rgb_stride (n a.rgb.now) a.first accepted e refl in
+    let h = accepted_call known among_depths a.codes (geometry i) (n i.y_plane.now) (n i.u_plane.now) (n i.v_plane.now) a.rgb_stride (n a.rgb.now) held.0 in
+    let ready = accepted_ready known among_depths a.codes (geometry i) (n i.y_plane.now) (n i.u_plane.now) (n i.v_plane.now) a.rgb_stride (n a.rgb.now) held.0 in
+    let below : a.first + c.band_rows-rows.result ≤ i.height = rw c.band_rows-rows.ensures (rowed _ _ _ held.1).after.most in
+    rw c.in_ok-s.ensures.settings record {
+      ready = ready;
+      depth = h.depth;
+      packing = λ eight. low_at_8 a.codes.depth a.codes.packing eight h.packing;
+      rows_exist = below;
+      rows_wide = h.rgb_stride;
+      rows_fit = h.rgb_length;
+    }
 
 pub returns : goal.returns
-returns c =
-    let enough : let a = c.args in T (among a.codes.depth depths8) → AnySamples (decoded a.codes) (frame_of a.image a.y.now a.u.now a.v.now) → WithinDepth (decoded a.codes) (frame_of a.image a.y.now a.u.now a.v.now) = λ d _. bytes_within _ _ d
-    (λ i. omega (arith, c.type_inv.y i))
-    (λ i. omega (arith, c.type_inv.u i))
-    (λ i. omega (arith, c.type_inv.v i)) in
+returns g c =
     let a = c.args in
-    let whole = untouched depths8 depth_of_8 a.codes a.image a.y.now a.u.now a.v.now a.rgb_stride a.rgb.now a.first (told c.check_band-answer.result) (answer-5 c) a.limit AnySamples enough BandReport band_numbers
-    (sym c.is_accepted.ensures ∙ c.if-is_accepted.false) in
-    rw c.refused_band.ensures record { answer = whole.0; destination = whole.1.0; faithful = whole.1.1 }
+    let n = g.S.Sample.numbers in
+    let i = a.image.now in
+    let known = g.S.Depths.known in
+    let among_depths = g.met.S.Element.among_depths in
+    let f = frame_of (geometry i) (n i.y_plane.now) (n i.u_plane.now) (n i.v_plane.now) in
+    let asked = g.S.Element.asked in
+    let e = c.in_ok-s.ensures.answer ∙ band_told g.met.S.Sample.numbers_are known a.codes i a.rgb_stride a.rgb.now a.first in
+    let enough : T (among a.codes.depth known) → asked (decoded a.codes) f → WithinDepth (decoded a.codes) f = λ d w. g.met.S.Element.within (decoded a.codes) f d c.samples_fit.ensures c.samples_fit-2.ensures c.samples_fit-3.ensures w in
+    let whole = converted known among_depths a.codes (geometry i) (n i.y_plane.now) (n i.u_plane.now) (n i.v_plane.now) a.rgb_stride (n a.rgb.now) a.first accepted e a.limit asked enough (Clipped × ℕ) (λ _ clipped rows _. (clipped, rows))
+    refl c.band_rows-rows.result c.band_rows-rows.ensures
+    c.convert_rows_of-clipped.result (rw c.in_ok-s.ensures.settings at c.convert_rows_of-clipped.ensures.counts)
+    (n c.convert_rows_of-clipped.new.rgb) (rw c.in_ok-s.ensures.settings at c.convert_rows_of-clipped.ensures.destination) in
+    record {
+      answer = e;
+      rows = ap (λ (p : Clipped × ℕ). p.1) whole.0;
+      counts = ap (λ (p : Clipped × ℕ). p.0) whole.0;
+      destination = whole.1.0;
+      faithful = whole.1.1;
+    }
+
+pub returns-in_err-s-clause-answer : goal.returns-in_err-s-clause-answer
+returns-in_err-s-clause-answer g c =
+    let a = c.args in
+    let n = g.S.Sample.numbers in
+    let i = a.image.now in
+    let known = g.S.Depths.known in
+    let t = c.in_err-s.ensures.answer ∙ band_told g.met.S.Sample.numbers_are known a.codes i a.rgb_stride a.rgb.now a.first in
+    let e = t in
+    search rules
+
+pub returns-in_err-s-clause-rows : goal.returns-in_err-s-clause-rows
+returns-in_err-s-clause-rows g c =
+    let a = c.args in
+    let n = g.S.Sample.numbers in
+    let i = a.image.now in
+    let known = g.S.Depths.known in
+    let t = c.in_err-s.ensures.answer ∙ band_told g.met.S.Sample.numbers_are known a.codes i a.rgb_stride a.rgb.now a.first in
+    let e = sym (kept known a.codes (geometry i) (n i.y_plane.now) (n i.u_plane.now) (n i.v_plane.now) a.rgb_stride (n a.rgb.now) a.first _ t a.limit).rows in
+    search rules
+
+pub returns-in_err-s-clause-counts : goal.returns-in_err-s-clause-counts
+returns-in_err-s-clause-counts g c =
+    let a = c.args in
+    let n = g.S.Sample.numbers in
+    let i = a.image.now in
+    let known = g.S.Depths.known in
+    let t = c.in_err-s.ensures.answer ∙ band_told g.met.S.Sample.numbers_are known a.codes i a.rgb_stride a.rgb.now a.first in
+    let e = sym (kept known a.codes (geometry i) (n i.y_plane.now) (n i.u_plane.now) (n i.v_plane.now) a.rgb_stride (n a.rgb.now) a.first _ t a.limit).clipped in
+    search rules
+
+pub returns-in_err-s-clause-destination : goal.returns-in_err-s-clause-destination
+returns-in_err-s-clause-destination g c =
+    let a = c.args in
+    let n = g.S.Sample.numbers in
+    let i = a.image.now in
+    let known = g.S.Depths.known in
+    let t = c.in_err-s.ensures.answer ∙ band_told g.met.S.Sample.numbers_are known a.codes i a.rgb_stride a.rgb.now a.first in
+    sym (kept known a.codes (geometry i) (n i.y_plane.now) (n i.u_plane.now) (n i.v_plane.now) a.rgb_stride (n a.rgb.now) a.first _ t a.limit).destination
+
+pub returns-in_err-s-clause-faithful : goal.returns-in_err-s-clause-faithful
+returns-in_err-s-clause-faithful g c =
+    let a = c.args in
+    let n = g.S.Sample.numbers in
+    let i = a.image.now in
+    let known = g.S.Depths.known in
+    let t = c.in_err-s.ensures.answer ∙ band_told g.met.S.Sample.numbers_are known a.codes i a.rgb_stride a.rgb.now a.first in
+    λ z. absurd (refused known a.codes (geometry i) (n i.y_plane.now) (n i.u_plane.now) (n i.v_plane.now) a.rgb_stride (n a.rgb.now) a.first _ t z)

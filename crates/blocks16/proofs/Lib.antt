@@ -1,2 +1,0 @@
-pub mod Chroma
-pub mod Pixels

@@ -1,0 +1,7 @@
+use Rattle.convert_high16.proofs.Buffers.hold_chroma.Goals as goal
+
+pub returns-clause-u : goal.returns-clause-u
+returns-clause-u g c = λ h. record { rows_held = c.hold_both.ensures.held h; near = c.hold_both.ensures.near; other = c.hold_both.ensures.other }
+
+pub returns-clause-v : goal.returns-clause-v
+returns-clause-v g c = λ h. record { rows_held = c.hold_both-2.ensures.held h; near = c.hold_both-2.ensures.near; other = c.hold_both-2.ensures.other }

@@ -1,0 +1,8 @@
+use mathlib.Core.Path.{◌∙◌}
+use Rattle.std.proofs.Common.{arith}
+use Rattle.sample.proofs.Numbers.{numbers_take}
+use Rattle.yuv_support.proofs.Copy.{copied_all}
+use Rattle.sheet_picture.proofs.narrow.Goals as goal
+
+pub returns : goal.returns
+returns g c = numbers_take g.met.S.Sample.numbers_are c.args.n c.loop-i.plane ∙ copied_all c.loop-i.invariant (omega arith)

@@ -1,9 +1,0 @@
-use Rattle.yuv_support.proofs.Copy.{Copied}
-use Prim.Native.Nat.{◌-◌}
-use Rattle.sheet_picture.proofs.widen8.Given as goal
-
-abbrev pub invariant-loop-i : goal.invariant-loop-i
-invariant-loop-i l = Copied l.bytes l.initial.rgb l.n l.rgb l.i
-
-abbrev pub decreases-loop-i : goal.decreases-loop-i
-decreases-loop-i l = l.n - l.i

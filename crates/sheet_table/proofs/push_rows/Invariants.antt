@@ -1,0 +1,9 @@
+use Rattle.std.proofs.Common.{◌≡◌, ◌++◌, ◌+◌, ◌*◌, ◌≤◌, length}
+use Rattle.sheet_writing.specs.Text.{joined}
+use Rattle.sheet_table.specs.Shown.{shown_rows}
+use Rattle.sheet_table.proofs.push_rows.Given as goal
+
+abbrev pub invariant-loop-row : goal.invariant-loop-row
+invariant-loop-row g l =
+    (l.out ≡ l.initial.out ++ shown_rows l.shape.order l.shape.width (g.S.Sample.numbers l.rgb) l.row)
+    × (length l.out ≤ length l.initial.out + 1920 * l.row)

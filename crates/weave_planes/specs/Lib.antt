@@ -1,2 +1,0 @@
-pub mod Woven
-pub mod Fits

@@ -1,0 +1,193 @@
+// The numbers that an answer is handed out by: number, expected and received of an error, and three zeros where the call is accepted.
+ghost use Rattle.std.specs.Prelude.{◌≡◌, ◌+◌, ◌<◌, ◌^◌};
+ghost use Rattle.yuv_support.specs.Counts.{unclipped};
+ghost use Rattle.yuv_support.specs.Questions.{accepted};
+ghost use Rattle.yuv_error.specs.Told.{told, answered, clipped_of, band_clipped_of, rows_of, as_told, as_report, as_band_report};
+
+use crate::error::{MismatchedSize, YuvError};
+use yuv_support::Clipped;
+
+// Number, expected and received.
+#[repr(C)]
+#[derive(Clone, Copy, Debug, PartialEq, Eq)]
+pub struct Told {
+    pub number: u64,
+    pub expected: u64,
+    pub received: u64,
+}
+
+// The same of a conversion, and what was clipped.
+#[repr(C)]
+#[derive(Clone, Copy, Debug, PartialEq, Eq)]
+pub struct Report {
+    pub number: u64,
+    pub expected: u64,
+    pub received: u64,
+    pub below: u64,
+    pub above: u64,
+}
+
+// The same of a band, then how many rows were written, and the next first row.
+#[repr(C)]
+#[derive(Clone, Copy, Debug, PartialEq, Eq)]
+pub struct BandReport {
+    pub number: u64,
+    pub expected: u64,
+    pub received: u64,
+    pub below: u64,
+    pub above: u64,
+    pub rows: u64,
+    pub next: u64,
+}
+
+// What an accepted band leaves.
+#[derive(Clone, Copy, Debug, PartialEq, Eq)]
+pub struct Band {
+    pub rows: u32,
+    pub clipped: Clipped,
+}
+
+fn refused(number: u64) -> Told
+    ensures { result ≡ record { number = number; expected = 0; received = 0 } }
+{
+    Told {
+        number,
+        expected: 0,
+        received: 0,
+    }
+}
+
+fn mismatched(number: u64, size: MismatchedSize) -> Told
+    ensures { result
+        ≡ record { number = number; expected = size.expected; received = size.received } }
+{
+    Told {
+        number,
+        expected: size.expected,
+        received: size.received,
+    }
+}
+
+impl From<YuvError> for Told {
+    ghost from_gives = { λ e t. t ≡ as_told (told e) };
+
+    fn from(e: YuvError) -> Told {
+        match e {
+            YuvError::UnknownSampling => refused(1),
+            YuvError::UnknownCode => refused(2),
+            YuvError::ZeroBaseSize => refused(3),
+            YuvError::PointerOverflow => refused(4),
+            YuvError::DestinationSizeMismatch(size) => mismatched(5, size),
+            YuvError::MinimumStrideSizeMismatch(size) => mismatched(6, size),
+            YuvError::LumaPlaneMinimumSizeMismatch(size) => mismatched(7, size),
+            YuvError::LumaPlaneSizeMismatch(size) => mismatched(8, size),
+            YuvError::UPlaneMinimumSizeMismatch(size) => mismatched(9, size),
+            YuvError::UPlaneSizeMismatch(size) => mismatched(10, size),
+            YuvError::VPlaneMinimumSizeMismatch(size) => mismatched(11, size),
+            YuvError::VPlaneSizeMismatch(size) => mismatched(12, size),
+            YuvError::UnusableWeights => refused(13),
+            YuvError::RowOutside => refused(14),
+            YuvError::MalformedStream => refused(16),
+            YuvError::UnknownStream => refused(17),
+            YuvError::ShortFrame => refused(18),
+            YuvError::UnusableFirstRow => refused(19),
+            YuvError::UnusablePlane => refused(22),
+        }
+    }
+}
+
+// Nothing: what a refused call clips.
+fn unclipped() -> Clipped
+    ensures { result ≡ unclipped }
+{
+    Clipped { below: 0, above: 0 }
+}
+
+// An answer of a conversion, with what was clipped.
+fn counted(told: Told, clipped: Clipped) -> Report
+    ensures { result
+        ≡ record {
+          number = told.number;
+          expected = told.expected;
+          received = told.received;
+          below = clipped.below;
+          above = clipped.above;
+        } }
+{
+    Report {
+        number: told.number,
+        expected: told.expected,
+        received: told.received,
+        below: clipped.below as u64,
+        above: clipped.above as u64,
+    }
+}
+
+// An answer of a band from row `first` on.
+fn placed(told: Told, band: Band, first: u32) -> BandReport
+    ensures { result
+        ≡ record {
+          number = told.number;
+          expected = told.expected;
+          received = told.received;
+          below = band.clipped.below;
+          above = band.clipped.above;
+          rows = band.rows;
+          next = first + band.rows;
+        } }
+{
+    let report = counted(told, band.clipped);
+    BandReport {
+        number: report.number,
+        expected: report.expected,
+        received: report.received,
+        below: report.below,
+        above: report.above,
+        rows: band.rows as u64,
+        next: first as u64 + band.rows as u64,
+    }
+}
+
+// The answer of a call that leaves nothing but its answer.
+pub fn told_of(answer: Result<(), YuvError>) -> Told
+    ensures { result ≡ as_told (answered answer) }
+{
+    match answer {
+        Ok(_) => refused(0),
+        Err(e) => Told::from(e),
+    }
+}
+
+// The same, with the counts of a call that converts nothing.
+pub fn answer_alone(answer: Result<(), YuvError>) -> Report
+    ensures { result ≡ as_report (answered answer) unclipped }
+{
+    counted(told_of(answer), unclipped())
+}
+
+// The answer of a conversion; a refused one clips nothing.
+pub fn report_of(answer: Result<Clipped, YuvError>) -> Report
+    ensures { result ≡ as_report (answered answer) (clipped_of answer) }
+{
+    match answer {
+        Ok(clipped) => counted(refused(0), clipped),
+        Err(e) => counted(Told::from(e), unclipped()),
+    }
+}
+
+// The answer of a band from row `first` on; a refused one writes no row and clips nothing, and the next first row is its own.
+pub fn band_report_of(answer: Result<Band, YuvError>, first: u32) -> BandReport
+    ensures { result
+        ≡ as_band_report (answered answer) (band_clipped_of answer) first (rows_of answer) }
+{
+    match answer {
+        Ok(band) => placed(refused(0), band, first),
+        Err(e) => {
+            let nothing = Band {
+                rows: 0,
+                clipped: unclipped(),
+            };
+            placed(Told::from(e), nothing, first)
+        }
+    }
+}
