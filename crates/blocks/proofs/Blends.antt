@@ -38,7 +38,7 @@ module _ (j : ℕ) where
   pub pair_left : (near far : List ℕ) → pair_chroma near far (2 * j) ≡ rounded (3 * column_of near far j + column_of near far (j + 1))
   pair_left near far = rw (even, at_even) (ap rounded (omega arith))
 
-  pub pair_right : (near far : List ℕ) → pair_chroma near far (2 * j + 1) ≡ rounded (column_of near far j + 3 * column_of near far (j + 1))
+  pub pair_right : (near far : List ℕ) → pair_chroma near far (2 * j + 1) ≡ rounded (3 * column_of near far (j + 1) + column_of near far j)
   pair_right near far = rw (odd, at_odd) (ap rounded (omega arith))
 
 pub same_left : (a b : ℕ) → (a + b + 8 + 2 * a) / 16 ≡ rounded (3 * a + b)

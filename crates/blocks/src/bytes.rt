@@ -1,13 +1,17 @@
 // Letters of byte samples. Two letters are stored as one word, two samples are read as one, so that the compiler works in 16-bit lanes.
-ghost use Rattle.std.specs.Prelude.{◌≡◌, ◌⊎◌, [], ◌∷◌, ◌++◌, ℕ, ◌+◌, ◌-◌, ◌*◌, ◌/◌, ◌%◌, ◌≤◌, ◌<◌, length, get_or};
+ghost use Rattle.std.specs.Prelude.{◌≡◌, ◌⊎◌, [], ◌∷◌, ℕ, ◌+◌, ◌*◌, ◌/◌, ◌%◌, ◌≤◌, length};
 ghost use Rattle.std.proofs.lemmas.List.Edits.{sets};
-ghost use Rattle.yuv_support.specs.Picture.{row_of};
 ghost use Rattle.numerics.specs.Kernel.{letters_at, Bytes};
-ghost use Rattle.numerics.specs.Row.{row_value, at, clipped_over, stored, pair_word, Small, Filled, BlockFits};
-ghost use Rattle.blocks.specs.Parts.{PartsFit, Room, part_chroma, after};
+ghost use Rattle.numerics.specs.Row.{Small, Filled, BlockFits};
+ghost use Rattle.blocks.specs.Kernels.{bytes_max};
+ghost use Rattle.blocks.specs.Parts.{lettered, pair_letters, pair_words};
+ghost use Rattle.blocks.specs.Source.{arrays_fit, array_letters};
 
-use crate::chroma::{ChromaRows, Scratch, blend_tailed};
+use crate::block::Block;
+use crate::chroma::{Pixels, Scratch, Source};
+use crate::tailed::blend_tailed;
 use numerics::{Kernel, Letters};
+use sample::Sample;
 use yuv_support::Clipped;
 
 // Two letters, or a letter and alpha, as one word. shift is 256, a number of run time, so that the compiler stores the word whole.
@@ -18,6 +22,7 @@ fn word(low: u16, high: u16, shift: u16) -> u16
     low + shift * high
 }
 
+// The functions that store take a row and a place in it: a part would have to be cut, and its length tested, for each pair.
 fn store2(row: &mut [u8], place: usize, w: u16)
     requires { place + 2 ≤ length row.old }
     ensures { row.new ≡ sets row.old place (w % 256 ∷ w / 256 ∷ []) }
@@ -26,7 +31,8 @@ fn store2(row: &mut [u8], place: usize, w: u16)
     row[place + 1] = (w / 256) as u8;
 }
 
-// Three words, or four.
+// Three words, or four. Each is written out: with one function over `[u16; N]`, which stores them in a loop, frames of bytes take 2.2 times
+// as long to RGBA, and as long as these to RGB.
 fn store6(row: &mut [u8], place: usize, a: u16, b: u16, c: u16)
     requires { place + 6 ≤ length row.old }
     ensures { row.new ≡ sets row.old place (a % 256 ∷ a / 256 ∷ b % 256 ∷ b / 256 ∷ c % 256 ∷ c / 256 ∷ []) }
@@ -44,24 +50,12 @@ fn store8(row: &mut [u8], place: usize, a: u16, b: u16, c: u16, e: u16)
     store2(row, place + 6, e);
 }
 
-fn widened(x: u8) -> u16
-    ensures { (result ≡ x) × (result ≤ 255) }
-{
-    x as u16
-}
-
-// Two samples as one word. z is 0, a number of run time, so that the compiler loads them whole.
-fn two(xs: &[u8], place: usize, z: u16) -> u16
-    requires { (place + 1 < length xs.now) × (z ≡ 0) }
-    ensures { (result % 256 ≡ get_or xs.now place 0) × (result / 256 ≡ get_or xs.now (place + 1) 0) }
-{
-    widened(xs[place]) + 256 * widened(xs[place + 1]) + z
-}
-
 // A pixel's letters, which are bytes.
 pub fn pixel(k: Kernel, y: u16, p: u16, q: u16) -> Letters
     requires { Bytes k × (y ≤ 255) × (p ≤ 255) × (q ≤ 255) }
-    ensures { (result ≡ letters_at k y p q) × (result.first ≤ 255) × (result.green ≤ 255) × (result.third ≤ 255) × (result.below ≤ 3) × (result.above ≤ 3) }
+    ensures letters { result ≡ letters_at k y p q }
+    ensures fit { (result.first ≤ 255) × (result.green ≤ 255) × (result.third ≤ 255) }
+    ensures few { (result.below ≤ 3) × (result.above ≤ 3) }
 {
     numerics::pixel(k, p, q, y)
 }
@@ -81,23 +75,25 @@ fn pair<const LETTERS: usize>(
     p: &[u8],
     q: &[u8],
     i: usize,
-    z: u16,
-    shift: u16,
     k: Kernel,
 ) -> u16
     requires letters { (LETTERS ≡ 3) ⊎ (LETTERS ≡ 4) }
     requires places { LETTERS * (2 * i) + (LETTERS + LETTERS) ≤ length row.old }
-    requires kernel { Bytes k × (z ≡ 0) × (shift ≡ 256) }
-    requires samples { (2 * i + 2 ≤ length y.now) × (2 * i + 2 ≤ length p.now) × (2 * i + 2 ≤ length q.now) }
-    ensures row { row.new ≡ sets row.old (LETTERS * (2 * i)) (stored k LETTERS (at y.now (2 * i)) (at p.now (2 * i)) (at q.now (2 * i)) ++ stored k LETTERS (at y.now (2 * i + 1)) (at p.now (2 * i + 1)) (at q.now (2 * i + 1))) }
-    ensures counts { result ≡ pair_word k (at y.now) (at p.now) (at q.now) i }
+    requires kernel { Bytes k }
+    requires luma { 2 * i + 2 ≤ length y.now }
+    requires chroma { (2 * i + 2 ≤ length p.now) × (2 * i + 2 ≤ length q.now) }
+    ensures row { row.new ≡ sets row.old (LETTERS * (2 * i)) (pair_letters k LETTERS y.now p.now q.now i) }
+    ensures counts { result ≡ pair_words k y.now p.now q.now i }
 {
+    // 0 and 256 as numbers of run time.
+    let zero = (k.max - 255) as u32;
+    let shift = k.max + 1;
     let place = LETTERS * (2 * i);
-    let u = two(p, 2 * i, z);
-    let v = two(q, 2 * i, z);
-    let w = two(y, 2 * i, z);
-    let a = pixel(k, w % 256, u % 256, v % 256);
-    let b = pixel(k, w / 256, u / 256, v / 256);
+    let u = u8::two(p, 2 * i, zero);
+    let v = u8::two(q, 2 * i, zero);
+    let w = u8::two(y, 2 * i, zero);
+    let a = pixel(k, w.first as u16, u.first as u16, v.first as u16);
+    let b = pixel(k, w.second as u16, u.second as u16, v.second as u16);
     let first = word(a.first, a.green, shift);
     if LETTERS == 3 {
         let second = word(a.third, b.first, shift);
@@ -123,37 +119,29 @@ fn pairs<const LETTERS: usize>(
 )
     requires kernel { Bytes k }
     requires fits { BlockFits LETTERS (16 * eights) (8 * eights) row.old y.now p.now q.now words.old }
-    ensures row { row.new ≡ row_of (λ r. row_value k LETTERS (at y.now) (at p.now) (at q.now)) 0 row.old }
-    ensures counts { Filled (8 * eights) (pair_word k (at y.now) (at p.now) (at q.now)) words.new }
+    ensures row { row.new ≡ lettered k LETTERS y.now p.now q.now row.old }
+    ensures counts { Filled (8 * eights) (pair_words k y.now p.now q.now) words.new }
 {
-    let z = k.max - 255;
-    let shift = k.max + 1;
     let n = 8 * eights;
-    // By index: adapters after iter_mut say nothing of what was written.
-    for i in 0..n {
-        words[i] = pair::<LETTERS>(row, y, p, q, i, z, shift, k);
+    for (i, word) in words[..n].iter_mut().enumerate() {
+        *word = pair::<LETTERS>(row, y, p, q, i, k);
     }
 }
 
 // The letters of eight pairs `eights` times, three or four to the pixel, and a word of counts for each pair.
-fn block(
-    row: &mut [u8],
-    y: &[u8],
-    p: &[u8],
-    q: &[u8],
-    words: &mut [u16],
-    eights: usize,
-    letters: usize,
-    k: Kernel,
-)
-    requires { Bytes k × BlockFits letters (16 * eights) (8 * eights) row.old y.now p.now q.now words.old }
-    ensures row { row.new ≡ row_of (λ r. row_value k letters (at y.now) (at p.now) (at q.now)) 0 row.old }
-    ensures counts { Filled (8 * eights) (pair_word k (at y.now) (at p.now) (at q.now)) words.new }
+fn block(row: &mut [u8], y: &[u8], scratch: &mut Scratch<u8>, eights: usize, pixels: Pixels)
+    requires kernel { Bytes pixels.k }
+    requires fits { arrays_fit pixels.letters (16 * eights) (8 * eights) row.old y.now scratch.old }
+    ensures row { row.new ≡ array_letters pixels y.now scratch.old row.old }
+    ensures counts { Filled (8 * eights) (pair_words pixels.k y.now scratch.old.p scratch.old.q) scratch.new.words }
 {
-    if letters == 3 {
-        pairs::<3>(row, y, p, q, words, eights, k);
+    let k = pixels.k;
+    let p = &scratch.p;
+    let q = &scratch.q;
+    if pixels.letters == 3 {
+        pairs::<3>(row, y, p, q, &mut scratch.words, eights, k);
     } else {
-        pairs::<4>(row, y, p, q, words, eights, k);
+        pairs::<4>(row, y, p, q, &mut scratch.words, eights, k);
     }
 }
 
@@ -162,51 +150,35 @@ fn small_bytes(xs: &[u8])
     ensures { Small (length xs.now) xs.now }
 {}
 
-// Eight pairs `eights` times, of parts of the rows; the last pair is the tail where the parts end with it. What was clipped in the pairs
-// after the first `done`.
-pub fn convert_bytes(
-    row: &mut [u8],
-    y: &[u8],
-    first: &ChromaRows<'_, u8>,
-    third: &ChromaRows<'_, u8>,
-    scratch: &mut Scratch<'_, '_, '_, '_, u8>,
-    eights: usize,
-    done: usize,
-    letters: usize,
-    k: Kernel,
-) -> Clipped
-    requires kernel { Bytes k }
-    requires parts_fit { PartsFit letters eights row.old y.now first.now.near.now first.now.far.now third.now.near.now third.now.far.now }
-    requires eights { eights ≤ 32 }
-    requires left { done < 8 * eights }
-    requires room { Room scratch.old.p.now scratch.old.q.now scratch.old.sums.now scratch.old.words.now }
-    ensures row { row.new ≡ row_of (λ r. row_value k letters (at y.now) (part_chroma first.now.near.now first.now.far.now first.now.tail) (part_chroma third.now.near.now third.now.far.now third.now.tail)) 0 row.old }
-    ensures counts { result ≡ clipped_over k (after done (at y.now)) (after done (part_chroma first.now.near.now first.now.far.now first.now.tail)) (after done (part_chroma third.now.near.now third.now.far.now third.now.tail)) (2 * (8 * eights - done)) }
-    ensures room { Room scratch.new.p.now scratch.new.q.now scratch.new.sums.now scratch.new.words.now }
-{
-    small_bytes(first.near);
-    small_bytes(first.far);
-    small_bytes(third.near);
-    small_bytes(third.far);
-    let n = 8 * eights;
-    blend_tailed(
-        scratch.p,
-        scratch.sums,
-        first.near,
-        first.far,
-        first.tail,
-        n,
-    );
-    blend_tailed(
-        scratch.q,
-        scratch.sums,
-        third.near,
-        third.far,
-        third.tail,
-        n,
-    );
-    let p = &mut *scratch.p;
-    let q = &mut *scratch.q;
-    block(row, y, p, q, scratch.words, eights, letters, k);
-    numerics::counted(&scratch.words[done..n])
+impl Block for u8 {
+    ghost kernel = { Bytes };
+
+    ghost max_fits = { bytes_max };
+
+    ghost half_is = { λ k b. b.half };
+
+    fn pixel(k: Kernel, y: u16, p: u16, q: u16) -> Letters {
+        pixel(k, y, p, q)
+    }
+
+    fn convert(
+        row: &mut [u8],
+        source: &Source<'_, u8>,
+        scratch: &mut Scratch<u8>,
+        eights: usize,
+        done: usize,
+        pixels: Pixels,
+    ) -> Clipped {
+        let first = source.first;
+        let third = source.third;
+        small_bytes(first.near);
+        small_bytes(first.far);
+        small_bytes(third.near);
+        small_bytes(third.far);
+        let n = 8 * eights;
+        blend_tailed(&mut scratch.p, &mut scratch.sums, &first, n);
+        blend_tailed(&mut scratch.q, &mut scratch.sums, &third, n);
+        block(row, source.y, scratch, eights, pixels);
+        numerics::counted(&scratch.words[done..n])
+    }
 }

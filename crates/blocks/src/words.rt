@@ -1,18 +1,24 @@
 // Letters of u16 samples: in 16-bit lanes where all samples are below 4,096, and in 32-bit lanes for any samples.
-ghost use Rattle.std.specs.Prelude.{◌≡◌, ◌⊎◌, true, ℕ, ◌+◌, ◌-◌, ◌*◌, ◌≤◌, ◌<◌, length};
+// Which of the two (QUICK) is a const bool, and no closure or trait: it is chosen once for a group, and each loop is compiled for it. A trait
+// with two empty types would say the same in more words.
+ghost use Rattle.std.specs.Prelude.{◌≡◌, ◌⊎◌, true, false, ℕ, ◌+◌, ◌*◌, ◌≤◌, length};
 ghost use Rattle.std.proofs.lemmas.List.Edits.{sets};
-ghost use Rattle.yuv_support.specs.Picture.{row_of};
 ghost use Rattle.numerics.specs.Kernel.{letters_at, Quick, Words};
-ghost use Rattle.numerics.specs.Row.{row_value, at, clipped_over, stored, word_at, Small, Filled, BlockFits};
-ghost use Rattle.blocks.specs.Parts.{PartsFit, Room, part_chroma, after};
+ghost use Rattle.numerics.specs.Row.{stored, word_at, Small, Filled, BlockFits};
+ghost use Rattle.blocks.specs.Kernels.{words_max};
+ghost use Rattle.blocks.specs.Parts.{lettered, pixel_words, small_columns};
+ghost use Rattle.blocks.specs.Source.{words_fit, word_letters, word_counts, arrays_fit, array_letters, few_chroma, SmallChroma};
 
-use crate::chroma::{ChromaRows, Scratch, any_tailed, blend_tailed};
+use crate::block::Block;
+use crate::chroma::{ChromaRows, Pixels, Scratch, Source, any_tailed};
+use crate::tailed::blend_tailed;
 use numerics::{Kernel, Letters};
 use yuv_support::Clipped;
 
 // ---- how large the samples are
 
-// 0 if all samples are below 4,096.
+// A sum that is above 0 if a sample is 4,096 or more. It is a number and no yes or no: with `.iter().all(|s| *s < 4096)` and `&&` in its
+// place frames of u16 samples take 1.45 times as long.
 fn beyond(samples: &[u16]) -> u16
     requires { length samples.now ≤ 512 }
     ensures { (result ≤ 7680) × (result ≡ 0 → Small (length samples.now) samples.now) }
@@ -24,10 +30,10 @@ fn beyond(samples: &[u16]) -> u16
     sum
 }
 
-// Whether all samples of luma and of four rows of chroma, and the tails', are below 4,096.
+// True only if all samples of luma and of four rows of chroma, and the tails', are below 4,096.
 fn is_small(y: &[u16], first: &ChromaRows<'_, u16>, third: &ChromaRows<'_, u16>) -> bool
-    requires { (length y.now ≤ 512) × (length first.now.near.now ≤ 512) × (length first.now.far.now ≤ 512) × (length third.now.near.now ≤ 512) × (length third.now.far.now ≤ 512) }
-    ensures { result ≡ true → Small (length y.now) y.now × Small (length first.now.near.now) first.now.near.now × Small (length first.now.far.now) first.now.far.now × Small (length third.now.near.now) third.now.near.now × Small (length third.now.far.now) third.now.far.now × (first.now.tail ≤ 4095) × (third.now.tail ≤ 4095) }
+    requires { (length y.now ≤ 512) × few_chroma first.now × few_chroma third.now }
+    ensures { result ≡ true → Small (length y.now) y.now × SmallChroma first.now × SmallChroma third.now }
 {
     let a = beyond(first.near) + beyond(first.far) + first.tail / 4096;
     let b = beyond(third.near) + beyond(third.far) + third.tail / 4096;
@@ -36,20 +42,20 @@ fn is_small(y: &[u16], first: &ChromaRows<'_, u16>, third: &ChromaRows<'_, u16>)
 
 // ---- letters
 
-// The letters of a pixel: by the signed sums where all samples are below 4,096 (QUICK is 1), and else by those for any samples.
-fn pixel<const QUICK: usize>(k: Kernel, y: u16, p: u16, q: u16) -> Letters
-    requires quick { QUICK ≡ 1 → Quick k × (y ≤ 4095) × (p ≤ 4095) × (q ≤ 4095) }
-    requires any { (QUICK ≡ 1 → ⊥) → Words k }
+// The letters of a pixel: by the signed sums where all samples are below 4,096 (QUICK), and else by those for any samples.
+fn pixel<const QUICK: bool>(k: Kernel, y: u16, p: u16, q: u16) -> Letters
+    requires quick { QUICK ≡ true → Quick k × (y ≤ 4095) × (p ≤ 4095) × (q ≤ 4095) }
+    requires any { QUICK ≡ false → Words k }
     ensures { result ≡ letters_at k y p q }
 {
-    if QUICK == 1 {
+    if QUICK {
         return numerics::pixel(k, p, q, y);
     }
     numerics::pixel16(k, y, p, q)
 }
 
-// The letters of one pixel, from a place on, and its word of counts.
-fn put<const QUICK: usize, const LETTERS: usize>(
+// The letters of one pixel, from a place on, and its word of counts. A row and a place in it, as in `bytes`.
+fn put<const QUICK: bool, const LETTERS: usize>(
     row: &mut [u16],
     place: usize,
     y: u16,
@@ -59,8 +65,8 @@ fn put<const QUICK: usize, const LETTERS: usize>(
 ) -> u16
     requires letters { (LETTERS ≡ 3) ⊎ (LETTERS ≡ 4) }
     requires inside { place + LETTERS ≤ length row.old }
-    requires quick { QUICK ≡ 1 → Quick k × (y ≤ 4095) × (p ≤ 4095) × (q ≤ 4095) }
-    requires any { (QUICK ≡ 1 → ⊥) → Words k }
+    requires quick { QUICK ≡ true → Quick k × (y ≤ 4095) × (p ≤ 4095) × (q ≤ 4095) }
+    requires any { QUICK ≡ false → Words k }
     ensures row { row.new ≡ sets row.old place (stored k LETTERS y p q) }
     ensures counts { result ≡ word_at k y p q }
 {
@@ -74,7 +80,7 @@ fn put<const QUICK: usize, const LETTERS: usize>(
     a.below + 256 * a.above
 }
 
-fn pixels<const QUICK: usize, const LETTERS: usize>(
+fn put_all<const QUICK: bool, const LETTERS: usize>(
     row: &mut [u16],
     y: &[u16],
     p: &[u16],
@@ -84,39 +90,38 @@ fn pixels<const QUICK: usize, const LETTERS: usize>(
     k: Kernel,
 )
     requires fits { BlockFits LETTERS (8 * eights) (8 * eights) row.old y.now p.now q.now words.old }
-    requires quick { QUICK ≡ 1 → Quick k × Small (8 * eights) y.now × Small (8 * eights) p.now × Small (8 * eights) q.now }
-    requires any { (QUICK ≡ 1 → ⊥) → Words k }
-    ensures row { row.new ≡ row_of (λ r. row_value k LETTERS (at y.now) (at p.now) (at q.now)) 0 row.old }
-    ensures counts { Filled (8 * eights) (λ c. word_at k (at y.now c) (at p.now c) (at q.now c)) words.new }
+    requires quick { QUICK ≡ true → Quick k × small_columns (8 * eights) y.now p.now q.now }
+    requires any { QUICK ≡ false → Words k }
+    ensures row { row.new ≡ lettered k LETTERS y.now p.now q.now row.old }
+    ensures counts { Filled (8 * eights) (pixel_words k y.now p.now q.now) words.new }
 {
     let n = 8 * eights;
-    // By index: it reads several rows, and adapters after iter_mut say nothing of what was written.
-    for i in 0..n {
-        words[i] = put::<QUICK, LETTERS>(row, LETTERS * i, y[i], p[i], q[i], k);
+    for (i, word) in words[..n].iter_mut().enumerate() {
+        *word = put::<QUICK, LETTERS>(row, LETTERS * i, y[i], p[i], q[i], k);
     }
 }
 
 // The letters of eight pixels `eights` times, three or four to the pixel, and a word of counts for each.
-fn block<const QUICK: usize>(
+fn block<const QUICK: bool>(
     row: &mut [u16],
     y: &[u16],
-    p: &[u16],
-    q: &[u16],
-    words: &mut [u16],
+    scratch: &mut Scratch<u16>,
     eights: usize,
-    letters: usize,
-    k: Kernel,
+    pixels: Pixels,
 )
-    requires fits { BlockFits letters (8 * eights) (8 * eights) row.old y.now p.now q.now words.old }
-    requires quick { QUICK ≡ 1 → Quick k × Small (8 * eights) y.now × Small (8 * eights) p.now × Small (8 * eights) q.now }
-    requires any { (QUICK ≡ 1 → ⊥) → Words k }
-    ensures row { row.new ≡ row_of (λ r. row_value k letters (at y.now) (at p.now) (at q.now)) 0 row.old }
-    ensures counts { Filled (8 * eights) (λ c. word_at k (at y.now c) (at p.now c) (at q.now c)) words.new }
+    requires fits { arrays_fit pixels.letters (8 * eights) (8 * eights) row.old y.now scratch.old }
+    requires quick { QUICK ≡ true → Quick pixels.k × small_columns (8 * eights) y.now scratch.old.p scratch.old.q }
+    requires any { QUICK ≡ false → Words pixels.k }
+    ensures row { row.new ≡ array_letters pixels y.now scratch.old row.old }
+    ensures counts { Filled (8 * eights) (pixel_words pixels.k y.now scratch.old.p scratch.old.q) scratch.new.words }
 {
-    if letters == 3 {
-        pixels::<QUICK, 3>(row, y, p, q, words, eights, k);
+    let k = pixels.k;
+    let p = &scratch.p;
+    let q = &scratch.q;
+    if pixels.letters == 3 {
+        put_all::<QUICK, 3>(row, y, p, q, &mut scratch.words, eights, k);
     } else {
-        pixels::<QUICK, 4>(row, y, p, q, words, eights, k);
+        put_all::<QUICK, 4>(row, y, p, q, &mut scratch.words, eights, k);
     }
 }
 
@@ -126,75 +131,58 @@ fn block<const QUICK: usize>(
 // The last pair is the tail where the parts end with it.
 fn letters_of_parts(
     row: &mut [u16],
-    y: &[u16],
-    first: &ChromaRows<'_, u16>,
-    third: &ChromaRows<'_, u16>,
-    scratch: &mut Scratch<'_, '_, '_, '_, u16>,
+    source: &Source<'_, u16>,
+    scratch: &mut Scratch<u16>,
     eights: usize,
-    letters: usize,
-    k: Kernel,
+    pixels: Pixels,
 )
-    requires kernel { Words k }
-    requires parts_fit { PartsFit letters eights row.old y.now first.now.near.now first.now.far.now third.now.near.now third.now.far.now }
+    requires kernel { Words pixels.k }
+    requires parts_fit { words_fit pixels.letters eights row.old source.now }
     requires eights { eights ≤ 32 }
     requires some { 1 ≤ eights }
-    requires room { Room scratch.old.p.now scratch.old.q.now scratch.old.sums.now scratch.old.words.now }
-    ensures row { row.new ≡ row_of (λ r. row_value k letters (at y.now) (part_chroma first.now.near.now first.now.far.now first.now.tail) (part_chroma third.now.near.now third.now.far.now third.now.tail)) 0 row.old }
-    ensures counts { Filled (2 * (8 * eights)) (λ c. word_at k (at y.now c) (part_chroma first.now.near.now first.now.far.now first.now.tail c) (part_chroma third.now.near.now third.now.far.now third.now.tail c)) scratch.new.words.now }
-    ensures room { Room scratch.new.p.now scratch.new.q.now scratch.new.sums.now scratch.new.words.now }
+    ensures row { row.new ≡ word_letters pixels source.now row.old }
+    ensures counts { Filled (2 * (8 * eights)) (word_counts pixels.k source.now) scratch.new.words }
 {
+    let k = pixels.k;
+    let letters = pixels.letters;
     let n = 8 * eights;
-    if is_small(y, first, third) {
-        let low = numerics::lower(k);
-        blend_tailed(
-            scratch.p,
-            scratch.sums,
-            first.near,
-            first.far,
-            first.tail,
-            n,
-        );
-        blend_tailed(
-            scratch.q,
-            scratch.sums,
-            third.near,
-            third.far,
-            third.tail,
-            n,
-        );
-        let p = &mut *scratch.p;
-        let q = &mut *scratch.q;
-        block::<1>(row, y, p, q, scratch.words, 2 * eights, letters, low);
+    let first = source.first;
+    let third = source.third;
+    if is_small(source.y, &first, &third) {
+        let low = Pixels {
+            letters,
+            k: numerics::lower(k),
+        };
+        blend_tailed(&mut scratch.p, &mut scratch.sums, &first, n);
+        blend_tailed(&mut scratch.q, &mut scratch.sums, &third, n);
+        block::<true>(row, source.y, scratch, 2 * eights, low);
     } else {
-        any_tailed(scratch.p, first.near, first.far, first.tail, n, k.half);
-        any_tailed(scratch.q, third.near, third.far, third.tail, n, k.half);
-        let p = &mut *scratch.p;
-        let q = &mut *scratch.q;
-        block::<0>(row, y, p, q, scratch.words, 2 * eights, letters, k);
+        any_tailed(&mut scratch.p, &first, n, k.half);
+        any_tailed(&mut scratch.q, &third, n, k.half);
+        block::<false>(row, source.y, scratch, 2 * eights, pixels);
     }
 }
 
-// The same, and what was clipped in the pairs after the first `done`.
-pub fn convert_words(
-    row: &mut [u16],
-    y: &[u16],
-    first: &ChromaRows<'_, u16>,
-    third: &ChromaRows<'_, u16>,
-    scratch: &mut Scratch<'_, '_, '_, '_, u16>,
-    eights: usize,
-    done: usize,
-    letters: usize,
-    k: Kernel,
-) -> Clipped
-    requires kernel { Words k }
-    requires parts_fit { PartsFit letters eights row.old y.now first.now.near.now first.now.far.now third.now.near.now third.now.far.now }
-    requires eights { eights ≤ 32 }
-    requires left { done < 8 * eights }
-    requires room { Room scratch.old.p.now scratch.old.q.now scratch.old.sums.now scratch.old.words.now }
-    ensures row { row.new ≡ row_of (λ r. row_value k letters (at y.now) (part_chroma first.now.near.now first.now.far.now first.now.tail) (part_chroma third.now.near.now third.now.far.now third.now.tail)) 0 row.old }
-    ensures counts { result ≡ clipped_over k (after done (at y.now)) (after done (part_chroma first.now.near.now first.now.far.now first.now.tail)) (after done (part_chroma third.now.near.now third.now.far.now third.now.tail)) (2 * (8 * eights - done)) }
-    ensures room { Room scratch.new.p.now scratch.new.q.now scratch.new.sums.now scratch.new.words.now }
-{
-    letters_of_parts(row, y, first, third, scratch, eights, letters, k);
-    numerics::counted(&scratch.words[2 * done..2 * (8 * eights)])
+impl Block for u16 {
+    ghost kernel = { Words };
+
+    ghost max_fits = { words_max };
+
+    ghost half_is = { λ k w. w.half };
+
+    fn pixel(k: Kernel, y: u16, p: u16, q: u16) -> Letters {
+        numerics::pixel16(k, y, p, q)
+    }
+
+    fn convert(
+        row: &mut [u16],
+        source: &Source<'_, u16>,
+        scratch: &mut Scratch<u16>,
+        eights: usize,
+        done: usize,
+        pixels: Pixels,
+    ) -> Clipped {
+        letters_of_parts(row, source, scratch, eights, pixels);
+        numerics::counted(&scratch.words[2 * done..2 * (8 * eights)])
+    }
 }

@@ -1,7 +1,7 @@
 -- How large the formula's numbers get: a numerator is at most four times its denominator, and M at most twice a range.
 -- Assumes nothing.
-use Prim.Native.Nat.{ℕ, ◌-◌, ◌*◌, ◌/◌, ◌^◌, ◌≤◌, ◌<◌}
-use native.Mathlib.Nat.{mul-le-mul, div-le_of_le-mul, lt_of_le_of_lt}
+use Prim.Native.Nat.{ℕ, ◌-◌, ◌*◌, ◌≤◌}
+use native.Mathlib.Nat.{mul-le-mul}
 use native.Mathlib.Omega.{arith}
 use lib.Dec.{T}
 use mathlib.Core.Path.{◌≡◌}
@@ -12,13 +12,7 @@ use Rattle.yuv_support.specs.Settings.{among, depths, max_of, range_y, range_c, 
 use Rattle.yuv_support.proofs.Depths.{by_depth}
 use Rattle.built_coefficients.specs.Built.{AtMostTwo}
 
-pub quotient_fits : {m : ℕ} (den : ℕ) → m ≤ 65538 * den → m / (2 * den) < 2 ^ 32
-quotient_fits den h = lt_of_le_of_lt (div-le_of_le-mul (2 * den) (let q : _ ≤ 2 * den * 32769 = omega arith in q)) (omega arith)
-
-pub outer_fits : (k m range : ℕ) → m ≤ 2 * range → 2 * (10000 - k) * m ≤ 4 * (10000 * range)
-outer_fits k m range h = let p : 2 * (10000 - k) * m ≤ 20000 * (2 * range) = mul-le-mul (omega arith) h in omega (arith, p)
-
-pub inner_part : (k kg : ℕ) → k ≤ kg → 2 * (10000 - k) * k ≤ 20000 * kg
+inner_part : (k kg : ℕ) → k ≤ kg → 2 * (10000 - k) * k ≤ 20000 * kg
 inner_part k kg l = mul-le-mul (omega arith) l
 
 pub inner_fits : (k kg m range : ℕ) → k ≤ kg → m ≤ 2 * range → 2 * (10000 - k) * k * m ≤ 4 * (10000 * kg * range)

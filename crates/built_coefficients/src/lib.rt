@@ -71,7 +71,7 @@ fn rule(depth: u32, range: YuvRange, k: Weights) -> CbCrInverseTransform
     }
 }
 
-// The weights of a matrix. Custom, which has no stored row, carries its own elsewhere.
+// The weights of a matrix, which each case gives for itself. Custom, which has no stored row, carries its own elsewhere.
 #[tactic(auto, unfolding(yuv_support::specs::Settings::weight_r, yuv_support::specs::Settings::weight_b))]
 fn own_weights(matrix: YuvStandardMatrix) -> Weights
     ensures { result ≡ record { kr = weight_r matrix; kb = weight_b matrix } }

@@ -5,14 +5,12 @@ use mathlib.Core.Bool.{Bool, true, false, cond}
 use mathlib.Core.List.{List}
 use Prim.Native.Nat.{ℕ, ◌-◌, ◌/◌, ◌%◌, ◌^◌}
 use native.Mathlib.Nat.{zero-div}
-use borrow.Author.Tests.{eqb-true, eqb-false}
 use lib.Dec.{eqb}
 use lib.ListN.{length, get_or, take, length-map, get_or-map}
 use Rattle.std.specs.Prelude.{Some}
 use Rattle.yuv_support.specs.declared.YuvBytesPacking.TheVariants.{MostSignificantBytes}
 use Rattle.yuv_support.specs.Settings.{unpacked, samples_of}
 use Rattle.yuv_support.specs.Questions.{part_of}
-use Rattle.convert_high16.specs.declared.HeldRow.{HeldRow}
 use Rattle.convert_high16.specs.declared.HeldRows.{HeldRows}
 use Rattle.convert_high16.specs.Held.{divided_by, place_of, held_row, Held}
 
@@ -39,13 +37,3 @@ in_place {n} {shift} {columns} {stride} {plane} {held} h c named = by_parity (eq
         → take columns (cond even held.even held.odd).samples ≡ divided_by shift (part_of stride c columns plane)
     by_parity true e = h.even c e
     by_parity false e = h.odd c e
-
--- the near row is still named after the other one was held: that has the other place, or is the same row
-pub both_named : {n : ℕ} (near other : ℕ) (before after : HeldRows n) → (near % 2 ≡ other % 2 → near ≡ other) → (place_of before near).number ≡ Some near
-    → (place_of after other).number ≡ Some other → ((q : ℕ) → (q % 2 ≡ other % 2 → ⊥) → place_of after q ≡ place_of before q)
-    → (place_of after near).number ≡ Some near
-both_named {n} near other before after neighbours first second kept = by_parity (eqb (near % 2) (other % 2)) refl
-  where
-    by_parity : (t : Bool) → eqb (near % 2) (other % 2) ≡ t → (place_of after near).number ≡ Some near
-    by_parity true t = rw (neighbours (eqb-true (near % 2) (other % 2) t)) second
-    by_parity false t = ap (λ (h : HeldRow n). h.number) (kept near (eqb-false (near % 2) (other % 2) t)) ∙ first

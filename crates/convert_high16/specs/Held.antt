@@ -1,25 +1,18 @@
 -- Chroma rows held unpacked: of two neighbours the even one has one place, the odd one the other.
 -- Definitions only.
-use Rattle.std.specs.Prelude.{◌≡◌, List, map, ℕ, ◌-◌, ◌*◌, ◌/◌, ◌%◌, ◌^◌, ◌≤◌, cond, eqb, length, take, Some}
-use Rattle.yuv_support.specs.declared.YuvSourceChannels.{YuvSourceChannels}
-use Rattle.yuv_support.specs.declared.YuvMode.{YuvMode}
-use Rattle.yuv_support.specs.declared.Clipped.{Clipped}
+use Rattle.std.specs.Prelude.{◌≡◌, List, map, ℕ, ◌-◌, ◌/◌, ◌%◌, ◌^◌, cond, eqb, take, Some}
 use Rattle.yuv_support.specs.declared.Settings.{Settings}
-use Rattle.yuv_support.specs.Blend.{Frame, frame_of, chroma_width}
-use Rattle.yuv_support.specs.Picture.{channels_of}
+use Rattle.yuv_support.specs.Blend.{Frame, chroma_width}
 use Rattle.yuv_support.specs.Questions.{part_of}
 use Rattle.images.specs.declared.ChromaRows.{ChromaRows}
 use Rattle.images.specs.declared.picture.YuvPlanarImage.{YuvPlanarImage}
-use Rattle.images.specs.Lent.{geometry}
-use Rattle.numerics.specs.declared.Kernel.{Kernel}
-use Rattle.kernel.specs.Ordered.{ordered_value, ordered_clipped}
+use Rattle.kernel.specs.Lent.{frame as of_samples}
 use Rattle.convert_high16.specs.declared.HeldRow.{HeldRow}
 use Rattle.convert_high16.specs.declared.HeldRows.{HeldRows}
-use Rattle.convert_high16.specs.declared.Buffers.{Buffers}
 
 -- a lent picture as the definitions see it
 abbrev pub frame : YuvPlanarImage ℕ → Frame
-frame i = frame_of (geometry i) i.y_plane.now i.u_plane.now i.v_plane.now
+frame i = of_samples (λ xs. xs) i
 
 -- elements divided by 2^shift, rounding down
 abbrev pub divided_by : ℕ → List ℕ → List ℕ
@@ -50,31 +43,6 @@ pub record ChromaHeld {n : ℕ} (s : Settings) (f : Frame) (u v : HeldRows n) : 
   pub of_u : Held (16 - s.depth) (chroma_width f.width) f.u_stride f.u u
   pub of_v : Held (16 - s.depth) (chroma_width f.width) f.v_stride f.v v
 
--- ---- a luma row's samples in the buffers, p being its chroma rows
-
 -- the samples in the place of row c
 abbrev pub held_row : {n : ℕ} → ℕ → HeldRows n → ℕ → List ℕ
 held_row columns held c = take columns (place_of held c).samples
-
--- element x of the row that they make
-abbrev pub held_value : {m n : ℕ} → Kernel → YuvSourceChannels → YuvMode → ℕ → Buffers m n → ChromaRows → ℕ → ℕ
-held_value k order mode width b p x =
-    ordered_value k order mode width (take width b.luma)
-    (held_row p.columns b.u p.near) (held_row p.columns b.u p.other)
-    (held_row p.columns b.v p.near) (held_row p.columns b.v p.other) x
-
--- what is clipped in it
-abbrev pub held_clipped : {m n : ℕ} → Kernel → YuvSourceChannels → YuvMode → ℕ → Buffers m n → ChromaRows → Clipped
-held_clipped k order mode width b p =
-    ordered_clipped k order mode width (take width b.luma)
-    (held_row p.columns b.u p.near) (held_row p.columns b.u p.other)
-    (held_row p.columns b.v p.near) (held_row p.columns b.v p.other)
-
--- buffers of these lengths are long enough for it
-pub record HeldFits (order : YuvSourceChannels) (row : List ℕ) (p : ChromaRows) (width luma chroma : ℕ) : Type 0 where
-  pub some : 1 ≤ width
-  pub wide : width ≤ 16384
-  pub places : length row ≡ width * channels_of order
-  pub luma_room : width ≤ luma
-  pub chroma_room : p.columns ≤ chroma
-  pub columns_are : p.columns ≡ chroma_width width

@@ -1,23 +1,30 @@
-// The rows of a picture whose u16 samples stand in the high bits: unpacked into buffers that are made once, by the width, then converted as any
-// other row.
-// A chroma row serves up to four luma rows of 4:2:0, so it is held until a later one of its parity takes its place.
+// The rows of a picture whose u16 samples are in the high bits: unpacked into buffers that are made
+// once, by the width, then converted as any other row.
+// A chroma row serves up to four luma rows of 4:2:0, so it is held until a later one of its parity
+// takes its place.
+// `shift < 16` and `columns ≤ COLUMNS` stay clauses: of the seven functions that take `shift`, five are
+// below those of `Buffers`, and would take it all the same if it were a field there; and one size of
+// array serves every width up to it.
+// `rgb`, `stride`, `image`, `s` and `rows` stay five parameters: the head of `convert` says why.
 #![tactic(auto)]
 
-ghost use Rattle.std.specs.Prelude.{◌≡◌, ℕ, ◌+◌, ◌-◌, ◌*◌, ◌/◌, ◌%◌, ◌^◌, ◌≤◌, ◌<◌, length, take, drop, get_or, Some};
+ghost use Rattle.std.specs.Prelude.{◌≡◌, ℕ, ◌*◌, ◌/◌, ◌%◌, ◌^◌, ◌≤◌, ◌<◌, T, length, take, Some, None};
 ghost use Rattle.yuv_support.specs.declared.YuvBytesPacking.TheVariants.{MostSignificantBytes};
+ghost use Rattle.yuv_support.specs.Settings.{among, depths16};
 ghost use Rattle.yuv_support.specs.Picture.{channels_of, row_of, element_of, band};
 ghost use Rattle.yuv_support.specs.Counts.{clipped_row, clipped_in};
-ghost use Rattle.yuv_support.specs.Questions.{needed};
 ghost use Rattle.numerics.specs.Kernel.{Words};
+ghost use Rattle.kernel.specs.Kernels.{kernel_of};
+ghost use Rattle.kernel.specs.Lent.{RowsFit};
 ghost use Rattle.kernel.specs.Ordered.{Ready};
-ghost use Rattle.blocks.specs.Parts.{Room};
-ghost use Rattle.convert_high16.specs.Held.{divided_by, place_of, Unpacked, Held, BothHeld, ChromaHeld, held_value, held_clipped, HeldFits, frame};
+ghost use Rattle.convert_high16.specs.Held.{divided_by, place_of, ChromaHeld, held_row, frame};
+ghost use Rattle.convert_high16.specs.Lent.{y_of, u_of, v_of, RowIn, BothIn, Neighbours, row_in, UnpackedOf, HeldOf, BothHeldOf};
 
 use blocks::chroma::Scratch;
-use convert::NearAndFar;
+use convert::{Convert, NearAndFar, RowConverter, RowSamples, Rows, convert_each, interpolate_row};
 use images::{ChromaRows, YuvPlanarImage};
 use numerics::Kernel;
-use sample::plane::Plane;
+use sample::plane::{Plane, Size};
 use yuv_support::{Clipped, Settings};
 
 // A chroma row of a plane, unpacked, and its number; at first none stands here.
@@ -50,27 +57,33 @@ fn divided(element: u16, shift: u32) -> u16
     element >> shift
 }
 
-// No sample is above the largest. It does nothing: the prover knows this of a slice that is a parameter, and not of
-// one in a struct.
-fn samples_fit(plane: &[u16])
-    ensures { (i : ℕ) → get_or plane.now i 0 ≤ 65535 }
-{}
-
 // The samples of a part, at the begin of a buffer.
 fn unpack(samples: &mut [u16], part: &[u16], shift: u32)
     requires { (shift < 16) × (length part.now ≤ length samples.old) }
     ensures { take (length part.now) samples.new ≡ divided_by shift part.now }
 {
-    for i in 0..part.len() {
-        samples[i] = divided(part[i], shift);
+    for (i, element) in part.iter().enumerate() {
+        samples[i] = divided(*element, shift);
     }
 }
 
 impl<const COLUMNS: usize> HeldRow<COLUMNS> {
+    // None stands here.
+    fn new() -> HeldRow<COLUMNS>
+        requires { COLUMNS ≤ 16384 }
+        ensures { result.number ≡ None }
+    {
+        HeldRow {
+            number: None,
+            samples: [0; COLUMNS],
+        }
+    }
+
     // Row c of a plane, unpacked unless it stands here.
     fn hold(&mut self, plane: Plane<'_, u16>, c: u32, columns: u32, shift: u32)
-        requires { (shift < 16) × (columns ≤ COLUMNS) × (plane.stride * c + columns ≤ length plane.elements.now) }
-        ensures held { Unpacked shift columns plane.entry.stride plane.entry.elements.now self.old → Unpacked shift columns plane.entry.stride plane.entry.elements.now self.new }
+        requires { (shift < 16) × (columns ≤ COLUMNS) × RowIn plane c columns }
+        ensures held { UnpackedOf shift columns plane.entry self.old
+            → UnpackedOf shift columns plane.entry self.new }
         ensures named { self.new.number ≡ Some c }
     {
         if self.number == Some(c) {
@@ -82,12 +95,24 @@ impl<const COLUMNS: usize> HeldRow<COLUMNS> {
 }
 
 impl<const COLUMNS: usize> HeldRows<COLUMNS> {
+    fn new() -> HeldRows<COLUMNS>
+        requires { COLUMNS ≤ 16384 }
+        ensures { (result.even.number ≡ None) × (result.odd.number ≡ None) }
+    {
+        HeldRows {
+            even: HeldRow::new(),
+            odd: HeldRow::new(),
+        }
+    }
+
     // Row c of a plane, in the place of its parity.
     fn hold(&mut self, plane: Plane<'_, u16>, c: u32, columns: u32, shift: u32)
-        requires { (shift < 16) × (columns ≤ COLUMNS) × (plane.stride * c + columns ≤ length plane.elements.now) }
-        ensures held { Held shift columns plane.entry.stride plane.entry.elements.now self.old → Held shift columns plane.entry.stride plane.entry.elements.now self.new }
+        requires { (shift < 16) × (columns ≤ COLUMNS) × RowIn plane c columns }
+        ensures held { HeldOf shift columns plane.entry self.old
+            → HeldOf shift columns plane.entry self.new }
         ensures named { (place_of self.new c).number ≡ Some c }
-        ensures kept { (q : ℕ) → (q % 2 ≡ c % 2 → ⊥) → place_of self.new q ≡ place_of self.old q }
+        ensures kept { (q : ℕ) → (q % 2 ≡ c % 2 → ⊥)
+            → place_of self.new q ≡ place_of self.old q }
     {
         let parity = c % 2;
         if parity == 0 {
@@ -100,8 +125,10 @@ impl<const COLUMNS: usize> HeldRows<COLUMNS> {
     // The two chroma rows of a luma row: they are neighbours or the same.
     fn hold_both(&mut self, plane: Plane<'_, u16>, p: ChromaRows, shift: u32)
         requires fits { (shift < 16) × (p.columns ≤ COLUMNS) }
-        requires rows_exist { (plane.stride * p.near + p.columns ≤ length plane.elements.now) × (plane.stride * p.other + p.columns ≤ length plane.elements.now) × (p.near % 2 ≡ p.other % 2 → p.near ≡ p.other) }
-        ensures held { Held shift p.columns plane.entry.stride plane.entry.elements.now self.old → Held shift p.columns plane.entry.stride plane.entry.elements.now self.new }
+        requires rows_exist { BothIn plane p }
+        requires neighbours { Neighbours p }
+        ensures held { HeldOf shift p.columns plane.entry self.old
+            → HeldOf shift p.columns plane.entry self.new }
         ensures near { (place_of self.new p.near).number ≡ Some p.near }
         ensures other { (place_of self.new p.other).number ≡ Some p.other }
     {
@@ -121,9 +148,36 @@ impl<const COLUMNS: usize> HeldRows<COLUMNS> {
             &self.odd.samples[..columns as usize]
         }
     }
+
+    // The two chroma rows of a luma row, where they are held.
+    fn both(&self, p: ChromaRows) -> NearAndFar<'_, u16>
+        requires { p.columns ≤ COLUMNS }
+        ensures near { result.near.now ≡ held_row p.columns self.now p.near }
+        ensures far { result.far.now ≡ held_row p.columns self.now p.other }
+        ensures lengths { (length result.near.now ≡ p.columns)
+            × (length result.far.now ≡ p.columns) }
+    {
+        NearAndFar {
+            near: self.row(p.near, p.columns),
+            far: self.row(p.other, p.columns),
+        }
+    }
 }
 
 impl<const WIDTH: usize, const COLUMNS: usize> Buffers<WIDTH, COLUMNS> {
+    // No chroma row is held.
+    fn new() -> Buffers<WIDTH, COLUMNS>
+        requires { (WIDTH ≤ 16384) × (COLUMNS ≤ 16384) }
+        ensures u { (result.u.even.number ≡ None) × (result.u.odd.number ≡ None) }
+        ensures v { (result.v.even.number ≡ None) × (result.v.odd.number ≡ None) }
+    {
+        Buffers {
+            luma: [0; WIDTH],
+            u: HeldRows::new(),
+            v: HeldRows::new(),
+        }
+    }
+
     // The luma samples from the begin on.
     fn luma_row(&self, width: u32) -> &[u16]
         requires { width ≤ WIDTH }
@@ -136,8 +190,9 @@ impl<const WIDTH: usize, const COLUMNS: usize> Buffers<WIDTH, COLUMNS> {
     // Luma row r of a picture, unpacked.
     fn unpack_luma(&mut self, image: &YuvPlanarImage<'_, u16>, r: u32, shift: u32)
         requires room { (shift < 16) × (image.now.width ≤ WIDTH) }
-        requires row_exists { image.now.y_stride * r + image.now.width ≤ length image.now.y_plane.now }
-        ensures luma { take image.now.width self.new.luma ≡ divided_by shift (take image.now.width (drop (image.now.y_stride * r) image.now.y_plane.now)) }
+        requires row_exists { RowIn (y_of image.now) r image.now.width }
+        ensures luma { take image.now.width self.new.luma
+            ≡ divided_by shift (row_in (y_of image.now) r image.now.width) }
         ensures chroma { (self.new.u ≡ self.old.u) × (self.new.v ≡ self.old.v) }
     {
         let lent = images::row(image.y_plane, image.y_stride, r, image.width);
@@ -146,11 +201,13 @@ impl<const WIDTH: usize, const COLUMNS: usize> Buffers<WIDTH, COLUMNS> {
 
     // The chroma rows p of a picture, each in its place.
     fn hold_chroma(&mut self, image: &YuvPlanarImage<'_, u16>, p: ChromaRows, shift: u32)
-        requires room { (shift < 16) × (p.columns ≤ COLUMNS) × (p.near % 2 ≡ p.other % 2 → p.near ≡ p.other) }
-        requires u_exists { (image.now.u_stride * p.near + p.columns ≤ length image.now.u_plane.now) × (image.now.u_stride * p.other + p.columns ≤ length image.now.u_plane.now) }
-        requires v_exists { (image.now.v_stride * p.near + p.columns ≤ length image.now.v_plane.now) × (image.now.v_stride * p.other + p.columns ≤ length image.now.v_plane.now) }
-        ensures u { Held shift p.columns image.now.u_stride image.now.u_plane.now self.old.u → BothHeld shift p image.now.u_stride image.now.u_plane.now self.new.u }
-        ensures v { Held shift p.columns image.now.v_stride image.now.v_plane.now self.old.v → BothHeld shift p image.now.v_stride image.now.v_plane.now self.new.v }
+        requires room { (shift < 16) × (p.columns ≤ COLUMNS) × Neighbours p }
+        requires u_exists { BothIn (u_of image.now) p }
+        requires v_exists { BothIn (v_of image.now) p }
+        ensures u { HeldOf shift p.columns (u_of image.now) self.old.u
+            → BothHeldOf shift p (u_of image.now) self.new.u }
+        ensures v { HeldOf shift p.columns (v_of image.now) self.old.v
+            → BothHeldOf shift p (v_of image.now) self.new.v }
     {
         let u = Plane {
             elements: image.u_plane,
@@ -164,138 +221,117 @@ impl<const WIDTH: usize, const COLUMNS: usize> Buffers<WIDTH, COLUMNS> {
         self.v.hold_both(v, p, shift);
     }
 
-    // A row from the samples held: luma from the begin on, and the chroma rows p.
-    fn interpolate(
-        &self,
-        row: &mut [u16],
-        p: ChromaRows,
-        width: u32,
-        s: Settings,
-        k: Kernel,
-        scratch: &mut Scratch<'_, '_, '_, '_, u16>,
-    ) -> Clipped
-        requires fits { Words k × HeldFits s.order row.old p width WIDTH COLUMNS }
-        requires room { Room scratch.old.p.now scratch.old.q.now scratch.old.sums.now scratch.old.words.now }
-        ensures row { row.new ≡ row_of (λ r. held_value k s.order s.mode width self.now p) 0 row.old }
-        ensures counts { result ≡ held_clipped k s.order s.mode width self.now p }
-        ensures room { Room scratch.new.p.now scratch.new.q.now scratch.new.sums.now scratch.new.words.now }
+    // The samples held of a luma row and of its chroma rows p.
+    fn samples(&self, p: ChromaRows, width: u32) -> RowSamples<'_, u16>
+        requires { (width ≤ WIDTH) × (p.columns ≤ COLUMNS) }
+        ensures y { result.y.now ≡ take width self.now.luma }
+        ensures u { (result.u.near.now ≡ held_row p.columns self.now.u p.near)
+            × (result.u.far.now ≡ held_row p.columns self.now.u p.other) }
+        ensures v { (result.v.near.now ≡ held_row p.columns self.now.v p.near)
+            × (result.v.far.now ≡ held_row p.columns self.now.v p.other) }
+        ensures lengths { (length result.y.now ≡ width)
+            × (length result.u.near.now ≡ p.columns) × (length result.u.far.now ≡ p.columns)
+            × (length result.v.near.now ≡ p.columns) × (length result.v.far.now ≡ p.columns) }
     {
-        let y = self.luma_row(width);
-        let un = self.u.row(p.near, p.columns);
-        let uf = self.u.row(p.other, p.columns);
-        let vn = self.v.row(p.near, p.columns);
-        let vf = self.v.row(p.other, p.columns);
-        let u = NearAndFar { near: un, far: uf };
-        let v = NearAndFar { near: vn, far: vf };
-        convert::interpolate_row(row, y, &u, &v, scratch, width as usize, s, k)
-    }
-
-    // Row r of the picture, into a part that is as long as the row.
-    fn convert_row(
-        &mut self,
-        row: &mut [u16],
-        image: &YuvPlanarImage<'_, u16>,
-        s: Settings,
-        k: Kernel,
-        r: u32,
-        scratch: &mut Scratch<'_, '_, '_, '_, u16>,
-    ) -> Clipped
-        requires ready { Words k × Ready s (frame image.now) k × (s.packing ≡ MostSignificantBytes) }
-        requires row_exists { (r < image.now.height) × (length row.old ≡ image.now.width * channels_of s.order) }
-        requires wide { (image.now.width ≤ WIDTH) × (WIDTH ≤ 2 * COLUMNS) }
-        requires room { Room scratch.old.p.now scratch.old.q.now scratch.old.sums.now scratch.old.words.now }
-        requires held { ChromaHeld s (frame image.now) self.old.u self.old.v }
-        ensures row { row.new ≡ row_of (element_of s (frame image.now)) r row.old }
-        ensures counts { result ≡ clipped_row s (frame image.now) r }
-        ensures held { ChromaHeld s (frame image.now) self.new.u self.new.v }
-        ensures room { Room scratch.new.p.now scratch.new.q.now scratch.new.sums.now scratch.new.words.now }
-    {
-        samples_fit(image.u_plane);
-        samples_fit(image.v_plane);
-        let shift = 16 - s.depth;
-        let p = images::chroma_rows(s.sampling, image.width, image.height, r);
-        self.hold_chroma(image, p, shift);
-        self.unpack_luma(image, r, shift);
-        self.interpolate(row, p, image.width, s, k, scratch)
+        RowSamples {
+            y: self.luma_row(width),
+            u: self.u.both(p),
+            v: self.v.both(p),
+        }
     }
 }
 
-// `count` rows from row `first` on, with buffers for a width of up to WIDTH. All else in the destination is kept.
+// A picture whose samples are in the high bits, of a width of up to WIDTH.
+#[derive(Drop)]
+struct HighRows<'a, const WIDTH: usize, const COLUMNS: usize> {
+    image: &'a YuvPlanarImage<'a, u16>,
+    s: Settings,
+    k: Kernel,
+    buffers: Buffers<WIDTH, COLUMNS>,
+    scratch: Scratch<u16>,
+}
+
+impl<'a, const WIDTH: usize, const COLUMNS: usize> RowConverter<u16>
+    for HighRows<'a, WIDTH, COLUMNS> {
+    ghost settings = { λ c. c.s };
+
+    ghost picture = { λ c. frame c.image.now };
+
+    ghost is_ready = { λ c. Words c.k × Ready c.s (frame c.image.now) c.k
+        × (c.s.packing ≡ MostSignificantBytes)
+        × (c.image.now.width ≤ WIDTH) × (WIDTH ≤ 2 * COLUMNS)
+        × ChromaHeld c.s (frame c.image.now) c.buffers.u c.buffers.v };
+
+    ghost small = { λ c ready. (ready.1.width_most, ready.1.height_most) };
+
+    fn convert_row(&mut self, row: &mut [u16], r: u32) -> Clipped {
+        let image = self.image;
+        u16::samples_fit(image.u_plane);
+        u16::samples_fit(image.v_plane);
+        let shift = 16 - self.s.depth;
+        let size = Size {
+            width: image.width,
+            height: image.height,
+        };
+        let p = images::chroma_rows(self.s.sampling, size, r);
+        self.buffers.hold_chroma(image, p, shift);
+        self.buffers.unpack_luma(image, r, shift);
+        let samples = self.buffers.samples(p, image.width);
+        let width = image.width as usize;
+        interpolate_row(row, &samples, &mut self.scratch, width, self.s, self.k)
+    }
+}
+
+// Rows of a picture, with buffers for a width of up to WIDTH. All else in the destination is kept.
 fn convert_within<const WIDTH: usize, const COLUMNS: usize>(
     rgb: &mut [u16],
+    stride: u32,
     image: &YuvPlanarImage<'_, u16>,
     s: Settings,
-    rgb_stride: u32,
-    k: Kernel,
-    first: u32,
-    count: u32,
-    scratch: &mut Scratch<'_, '_, '_, '_, u16>,
+    rows: Rows,
 ) -> Clipped
-    requires ready { Words k × Ready s (frame image.now) k × (s.packing ≡ MostSignificantBytes) }
-    requires rows_exist { (first + count ≤ image.now.height) × (image.now.width * channels_of s.order ≤ rgb_stride) × (needed rgb_stride (image.now.width * channels_of s.order) image.now.height ≤ length rgb.old) }
-    requires wide { (image.now.width ≤ WIDTH) × (WIDTH ≤ 2 * COLUMNS) × (WIDTH ≤ 16384) × (COLUMNS ≤ 16384) }
-    requires room { Room scratch.old.p.now scratch.old.q.now scratch.old.sums.now scratch.old.words.now }
-    ensures destination { rgb.new ≡ band s (frame image.now) rgb_stride first count rgb.old }
-    ensures counts { result ≡ clipped_in s (frame image.now) first count }
-    ensures room { Room scratch.new.p.now scratch.new.q.now scratch.new.sums.now scratch.new.words.now }
+    requires depth { T (among s.depth depths16) }
+    requires ready { Ready s (frame image.now) (kernel_of s) }
+    requires high { s.packing ≡ MostSignificantBytes }
+    requires fit { RowsFit s (frame image.now) stride rows.first rows.count rgb.old }
+    requires wide { (image.now.width ≤ WIDTH) × (WIDTH ≤ 2 * COLUMNS)
+        × (WIDTH ≤ 16384) × (COLUMNS ≤ 16384) }
+    ensures destination { rgb.new
+        ≡ band s (frame image.now) stride rows.first rows.count rgb.old }
+    ensures counts { result ≡ clipped_in s (frame image.now) rows.first rows.count }
 {
     let n = images::row_length(image.width, s.order) as usize;
-    let stride = rgb_stride as usize;
-    let end = first + count;
-    let mut buffers = Buffers::<WIDTH, COLUMNS> {
-        luma: [0; WIDTH],
-        u: HeldRows {
-            even: HeldRow {
-                number: None,
-                samples: [0; COLUMNS],
-            },
-            odd: HeldRow {
-                number: None,
-                samples: [0; COLUMNS],
-            },
-        },
-        v: HeldRows {
-            even: HeldRow {
-                number: None,
-                samples: [0; COLUMNS],
-            },
-            odd: HeldRow {
-                number: None,
-                samples: [0; COLUMNS],
-            },
-        },
+    let mut converter = HighRows::<WIDTH, COLUMNS> {
+        image: &*image,
+        s,
+        k: kernel::settings_kernel(s),
+        buffers: Buffers::new(),
+        scratch: Scratch::new(),
     };
-    let mut clipped = Clipped { below: 0, above: 0 };
-    for r in first..end {
-        let at = stride * r as usize;
-        let x = buffers.convert_row(&mut rgb[at..at + n], image, s, k, r, scratch);
-        clipped = numerics::both(clipped, x);
-    }
-    clipped
+    convert_each(rgb, stride, &mut converter, n, rows)
 }
 
-// `count` rows from row `first` on. All else in the destination is kept. Up to a width of 4096 the buffers are a quarter of what the widest
-// needs, so that a call of few rows clears less. `scratch` is room to work in.
+// Rows of a picture whose samples are in the high bits, in settings that no question refuses. All
+// else in the destination is kept. Up to a width of 4096 the buffers are a quarter of what the widest
+// needs, so that a call of few rows clears less.
 pub fn convert_rows(
     rgb: &mut [u16],
+    stride: u32,
     image: &YuvPlanarImage<'_, u16>,
     s: Settings,
-    rgb_stride: u32,
-    k: Kernel,
-    first: u32,
-    count: u32,
-    scratch: &mut Scratch<'_, '_, '_, '_, u16>,
+    rows: Rows,
 ) -> Clipped
-    requires ready { Words k × Ready s (frame image.now) k × (s.packing ≡ MostSignificantBytes) }
-    requires rows_exist { (first + count ≤ image.now.height) × (image.now.width * channels_of s.order ≤ rgb_stride) × (needed rgb_stride (image.now.width * channels_of s.order) image.now.height ≤ length rgb.old) }
-    requires room { Room scratch.old.p.now scratch.old.q.now scratch.old.sums.now scratch.old.words.now }
-    ensures destination { rgb.new ≡ band s (frame image.now) rgb_stride first count rgb.old }
-    ensures counts { result ≡ clipped_in s (frame image.now) first count }
-    ensures room { Room scratch.new.p.now scratch.new.q.now scratch.new.sums.now scratch.new.words.now }
+    requires depth { T (among s.depth depths16) }
+    requires ready { Ready s (frame image.now) (kernel_of s) }
+    requires high { s.packing ≡ MostSignificantBytes }
+    requires fit { RowsFit s (frame image.now) stride rows.first rows.count rgb.old }
+    ensures destination { rgb.new
+        ≡ band s (frame image.now) stride rows.first rows.count rgb.old }
+    ensures counts { result ≡ clipped_in s (frame image.now) rows.first rows.count }
 {
     if image.width <= 4096 {
-        convert_within::<4096, 2048>(rgb, image, s, rgb_stride, k, first, count, scratch)
+        convert_within::<4096, 2048>(rgb, stride, image, s, rows)
     } else {
-        convert_within::<16384, 8192>(rgb, image, s, rgb_stride, k, first, count, scratch)
+        convert_within::<16384, 8192>(rgb, stride, image, s, rows)
     }
 }

@@ -46,9 +46,14 @@ pub extern "C" fn dethrowg_yuv8_to_rgb(
     rgb: &mut [u8],
     rgb_stride: u32,
 ) -> Report
-    ensures answer { result ≡ as_report (answer_to depths8 codes image y.now u.now v.now rgb_stride rgb.old) (clipped_after depths8 codes image y.now u.now v.now rgb_stride rgb.old) }
-    ensures destination { rgb.new ≡ destination_after depths8 codes image y.now u.now v.now rgb_stride rgb.old }
-    ensures faithful { Demand3After AnySamples depths8 codes image y.now u.now v.now rgb_stride rgb.old rgb.new }
+    ensures answer { result
+        ≡ as_report
+        (answer_to depths8 codes image y.now u.now v.now rgb_stride rgb.old)
+        (clipped_after depths8 codes image y.now u.now v.now rgb_stride rgb.old) }
+    ensures destination { rgb.new
+        ≡ destination_after depths8 codes image y.now u.now v.now rgb_stride rgb.old }
+    ensures faithful { Demand3After AnySamples
+        depths8 codes image y.now u.now v.now rgb_stride rgb.old rgb.new }
 {
     let picture = YuvPlanarImage::with_planes(image, y, u, v);
     report_of(yuv_to_rgbx_bilinear::<u8>(&picture, codes, rgb, rgb_stride))
@@ -65,9 +70,14 @@ pub extern "C" fn dethrowg_yuv16_to_rgb(
     rgb: &mut [u16],
     rgb_stride: u32,
 ) -> Report
-    ensures answer { result ≡ as_report (answer_to depths16 codes image y.now u.now v.now rgb_stride rgb.old) (clipped_after depths16 codes image y.now u.now v.now rgb_stride rgb.old) }
-    ensures destination { rgb.new ≡ destination_after depths16 codes image y.now u.now v.now rgb_stride rgb.old }
-    ensures faithful { Demand3After WithinIfLow depths16 codes image y.now u.now v.now rgb_stride rgb.old rgb.new }
+    ensures answer { result
+        ≡ as_report
+        (answer_to depths16 codes image y.now u.now v.now rgb_stride rgb.old)
+        (clipped_after depths16 codes image y.now u.now v.now rgb_stride rgb.old) }
+    ensures destination { rgb.new
+        ≡ destination_after depths16 codes image y.now u.now v.now rgb_stride rgb.old }
+    ensures faithful { Demand3After WithinIfLow
+        depths16 codes image y.now u.now v.now rgb_stride rgb.old rgb.new }
 {
     let picture = YuvPlanarImage::with_planes(image, y, u, v);
     report_of(yuv_to_rgbx_bilinear::<u16>(&picture, codes, rgb, rgb_stride))
@@ -86,9 +96,16 @@ pub extern "C" fn dethrowg_yuv8_to_rgb_band(
     first: u32,
     limit: u32,
 ) -> BandReport
-    ensures answer { result ≡ as_band_report (answer_to_band depths8 codes image y.now u.now v.now rgb_stride rgb.old first) (clipped_after_band depths8 codes image y.now u.now v.now rgb_stride rgb.old first limit) first (rows_after depths8 codes image y.now u.now v.now rgb_stride rgb.old first limit) }
-    ensures destination { rgb.new ≡ destination_after_band depths8 codes image y.now u.now v.now rgb_stride rgb.old first limit }
-    ensures faithful { Demand3AfterBand AnySamples depths8 codes image y.now u.now v.now rgb_stride rgb.old first limit rgb.new }
+    ensures answer { result
+        ≡ as_band_report
+        (answer_to_band depths8 codes image y.now u.now v.now rgb_stride rgb.old first)
+        (clipped_after_band depths8 codes image y.now u.now v.now rgb_stride rgb.old first limit)
+        first
+        (rows_after depths8 codes image y.now u.now v.now rgb_stride rgb.old first limit) }
+    ensures destination { rgb.new
+        ≡ destination_after_band depths8 codes image y.now u.now v.now rgb_stride rgb.old first limit }
+    ensures faithful { Demand3AfterBand AnySamples
+        depths8 codes image y.now u.now v.now rgb_stride rgb.old first limit rgb.new }
 {
     let picture = YuvPlanarImage::with_planes(image, y, u, v);
     let band = yuv_to_rgbx_band::<u8>(&picture, codes, rgb, rgb_stride, first, limit);
@@ -108,9 +125,16 @@ pub extern "C" fn dethrowg_yuv16_to_rgb_band(
     first: u32,
     limit: u32,
 ) -> BandReport
-    ensures answer { result ≡ as_band_report (answer_to_band depths16 codes image y.now u.now v.now rgb_stride rgb.old first) (clipped_after_band depths16 codes image y.now u.now v.now rgb_stride rgb.old first limit) first (rows_after depths16 codes image y.now u.now v.now rgb_stride rgb.old first limit) }
-    ensures destination { rgb.new ≡ destination_after_band depths16 codes image y.now u.now v.now rgb_stride rgb.old first limit }
-    ensures faithful { Demand3AfterBand WithinIfLow depths16 codes image y.now u.now v.now rgb_stride rgb.old first limit rgb.new }
+    ensures answer { result
+        ≡ as_band_report
+        (answer_to_band depths16 codes image y.now u.now v.now rgb_stride rgb.old first)
+        (clipped_after_band depths16 codes image y.now u.now v.now rgb_stride rgb.old first limit)
+        first
+        (rows_after depths16 codes image y.now u.now v.now rgb_stride rgb.old first limit) }
+    ensures destination { rgb.new
+        ≡ destination_after_band depths16 codes image y.now u.now v.now rgb_stride rgb.old first limit }
+    ensures faithful { Demand3AfterBand WithinIfLow
+        depths16 codes image y.now u.now v.now rgb_stride rgb.old first limit rgb.new }
 {
     let picture = YuvPlanarImage::with_planes(image, y, u, v);
     let band = yuv_to_rgbx_band::<u16>(&picture, codes, rgb, rgb_stride, first, limit);
@@ -149,7 +173,9 @@ pub extern "C" fn dethrowg_chroma_row8(
     v_stride: u32,
     row: u32,
 ) -> Part
-    ensures { result ≡ chroma_row_place sampling plane width height (extent_of u.now u_stride) (extent_of v.now v_stride) row }
+    ensures { result
+        ≡ chroma_row_place sampling plane width height (extent_of u.now u_stride)
+        (extent_of v.now v_stride) row }
 {
     let u = Plane {
         elements: u,
@@ -194,7 +220,9 @@ pub extern "C" fn dethrowg_chroma_row16(
     v_stride: u32,
     row: u32,
 ) -> Part
-    ensures { result ≡ chroma_row_place sampling plane width height (extent_of u.now u_stride) (extent_of v.now v_stride) row }
+    ensures { result
+        ≡ chroma_row_place sampling plane width height (extent_of u.now u_stride)
+        (extent_of v.now v_stride) row }
 {
     let u = Plane {
         elements: u,
@@ -227,10 +255,18 @@ pub extern "C" fn dethrowg_y4m_read8(
     v: &mut [u8],
     v_stride: u32,
 ) -> Y4mFrame
-    ensures answer { result ≡ frame_told 1 stream.now place (strides y_stride u_stride v_stride) (lengths_of y.old u.old v.old) }
-    ensures y_plane { y.new ≡ y_after 1 stream.now place (strides y_stride u_stride v_stride) (lengths_of y.old u.old v.old) y.old }
-    ensures u_plane { u.new ≡ u_after 1 stream.now place (strides y_stride u_stride v_stride) (lengths_of y.old u.old v.old) u.old }
-    ensures v_plane { v.new ≡ v_after 1 stream.now place (strides y_stride u_stride v_stride) (lengths_of y.old u.old v.old) v.old }
+    ensures answer { result
+        ≡ frame_told 1 stream.now place (strides y_stride u_stride v_stride)
+        (lengths_of y.old u.old v.old) }
+    ensures y_plane { y.new
+        ≡ y_after 1 stream.now place (strides y_stride u_stride v_stride)
+        (lengths_of y.old u.old v.old) y.old }
+    ensures u_plane { u.new
+        ≡ u_after 1 stream.now place (strides y_stride u_stride v_stride)
+        (lengths_of y.old u.old v.old) u.old }
+    ensures v_plane { v.new
+        ≡ v_after 1 stream.now place (strides y_stride u_stride v_stride)
+        (lengths_of y.old u.old v.old) v.old }
 {
     let y = PlaneMut {
         elements: y,
@@ -259,10 +295,18 @@ pub extern "C" fn dethrowg_y4m_read16(
     v: &mut [u16],
     v_stride: u32,
 ) -> Y4mFrame
-    ensures answer { result ≡ frame_told 2 stream.now place (strides y_stride u_stride v_stride) (lengths_of y.old u.old v.old) }
-    ensures y_plane { y.new ≡ y_after 2 stream.now place (strides y_stride u_stride v_stride) (lengths_of y.old u.old v.old) y.old }
-    ensures u_plane { u.new ≡ u_after 2 stream.now place (strides y_stride u_stride v_stride) (lengths_of y.old u.old v.old) u.old }
-    ensures v_plane { v.new ≡ v_after 2 stream.now place (strides y_stride u_stride v_stride) (lengths_of y.old u.old v.old) v.old }
+    ensures answer { result
+        ≡ frame_told 2 stream.now place (strides y_stride u_stride v_stride)
+        (lengths_of y.old u.old v.old) }
+    ensures y_plane { y.new
+        ≡ y_after 2 stream.now place (strides y_stride u_stride v_stride)
+        (lengths_of y.old u.old v.old) y.old }
+    ensures u_plane { u.new
+        ≡ u_after 2 stream.now place (strides y_stride u_stride v_stride)
+        (lengths_of y.old u.old v.old) u.old }
+    ensures v_plane { v.new
+        ≡ v_after 2 stream.now place (strides y_stride u_stride v_stride)
+        (lengths_of y.old u.old v.old) v.old }
 {
     let y = PlaneMut {
         elements: y,
@@ -291,7 +335,7 @@ pub extern "C" fn dethrowg_y4m_write_header(
     ensures answer { result ≡ header_written sampling depth width height (length out.old) }
     ensures output { out.new ≡ after_header sampling depth width height out.old }
 {
-    y4m::write_header(sampling, depth, width, height, out)
+    y4m::write_header(sampling, depth, Size { width, height }, out)
 }
 
 // A frame of byte planes, written.
@@ -305,8 +349,12 @@ pub extern "C" fn dethrowg_y4m_write_frame8(
     v: &[u8],
     out: &mut [u8],
 ) -> Written
-    ensures answer { result ≡ frame_written 1 sampling depth image (lengths_of y.now u.now v.now) (length out.old) }
-    ensures output { out.new ≡ after_frame 1 sampling depth image (lengths_of y.now u.now v.now) y.now u.now v.now out.old }
+    ensures answer { result
+        ≡ frame_written 1 sampling depth image (lengths_of y.now u.now v.now)
+        (length out.old) }
+    ensures output { out.new
+        ≡ after_frame 1 sampling depth image (lengths_of y.now u.now v.now)
+        y.now u.now v.now out.old }
 {
     let image = YuvPlanarImage::with_planes(image, y, u, v);
     y4m::write_frame::<u8>(sampling, depth, &image, out)
@@ -323,8 +371,12 @@ pub extern "C" fn dethrowg_y4m_write_frame16(
     v: &[u16],
     out: &mut [u8],
 ) -> Written
-    ensures answer { result ≡ frame_written 2 sampling depth image (lengths_of y.now u.now v.now) (length out.old) }
-    ensures output { out.new ≡ after_frame 2 sampling depth image (lengths_of y.now u.now v.now) y.now u.now v.now out.old }
+    ensures answer { result
+        ≡ frame_written 2 sampling depth image (lengths_of y.now u.now v.now)
+        (length out.old) }
+    ensures output { out.new
+        ≡ after_frame 2 sampling depth image (lengths_of y.now u.now v.now)
+        y.now u.now v.now out.old }
 {
     let image = YuvPlanarImage::with_planes(image, y, u, v);
     y4m::write_frame::<u16>(sampling, depth, &image, out)
@@ -342,8 +394,12 @@ pub extern "C" fn dethrowg_weave8(
     uv: &mut [u8],
     uv_stride: u32,
 ) -> Report
-    ensures answer { result ≡ as_report (weave_answer width height (lent u.now u_stride) (lent v.now v_stride) (lent uv.old uv_stride)) unclipped }
-    ensures woven { uv.new ≡ after_weaving width height (lent u.now u_stride) (lent v.now v_stride) (lent uv.old uv_stride) }
+    ensures answer { result
+        ≡ as_report (weave_answer width height
+        (lent u.now u_stride) (lent v.now v_stride) (lent uv.old uv_stride)) unclipped }
+    ensures woven { uv.new
+        ≡ after_weaving width height (lent u.now u_stride) (lent v.now v_stride)
+        (lent uv.old uv_stride) }
 {
     let u = Plane {
         elements: u,
@@ -372,9 +428,15 @@ pub extern "C" fn dethrowg_unweave8(
     v: &mut [u8],
     v_stride: u32,
 ) -> Report
-    ensures answer { result ≡ as_report (weave_answer width height (lent u.old u_stride) (lent v.old v_stride) (lent uv.now uv_stride)) unclipped }
-    ensures u_plane { u.new ≡ u_after_unweaving width height (lent u.old u_stride) (lent v.old v_stride) (lent uv.now uv_stride) }
-    ensures v_plane { v.new ≡ v_after_unweaving width height (lent u.old u_stride) (lent v.old v_stride) (lent uv.now uv_stride) }
+    ensures answer { result
+        ≡ as_report (weave_answer width height
+        (lent u.old u_stride) (lent v.old v_stride) (lent uv.now uv_stride)) unclipped }
+    ensures u_plane { u.new
+        ≡ u_after_unweaving width height (lent u.old u_stride) (lent v.old v_stride)
+        (lent uv.now uv_stride) }
+    ensures v_plane { v.new
+        ≡ v_after_unweaving width height (lent u.old u_stride) (lent v.old v_stride)
+        (lent uv.now uv_stride) }
 {
     let uv = Plane {
         elements: uv,
@@ -403,8 +465,12 @@ pub extern "C" fn dethrowg_weave16(
     uv: &mut [u16],
     uv_stride: u32,
 ) -> Report
-    ensures answer { result ≡ as_report (weave_answer width height (lent u.now u_stride) (lent v.now v_stride) (lent uv.old uv_stride)) unclipped }
-    ensures woven { uv.new ≡ after_weaving width height (lent u.now u_stride) (lent v.now v_stride) (lent uv.old uv_stride) }
+    ensures answer { result
+        ≡ as_report (weave_answer width height
+        (lent u.now u_stride) (lent v.now v_stride) (lent uv.old uv_stride)) unclipped }
+    ensures woven { uv.new
+        ≡ after_weaving width height (lent u.now u_stride) (lent v.now v_stride)
+        (lent uv.old uv_stride) }
 {
     let u = Plane {
         elements: u,
@@ -433,9 +499,15 @@ pub extern "C" fn dethrowg_unweave16(
     v: &mut [u16],
     v_stride: u32,
 ) -> Report
-    ensures answer { result ≡ as_report (weave_answer width height (lent u.old u_stride) (lent v.old v_stride) (lent uv.now uv_stride)) unclipped }
-    ensures u_plane { u.new ≡ u_after_unweaving width height (lent u.old u_stride) (lent v.old v_stride) (lent uv.now uv_stride) }
-    ensures v_plane { v.new ≡ v_after_unweaving width height (lent u.old u_stride) (lent v.old v_stride) (lent uv.now uv_stride) }
+    ensures answer { result
+        ≡ as_report (weave_answer width height
+        (lent u.old u_stride) (lent v.old v_stride) (lent uv.now uv_stride)) unclipped }
+    ensures u_plane { u.new
+        ≡ u_after_unweaving width height (lent u.old u_stride) (lent v.old v_stride)
+        (lent uv.now uv_stride) }
+    ensures v_plane { v.new
+        ≡ v_after_unweaving width height (lent u.old u_stride) (lent v.old v_stride)
+        (lent uv.now uv_stride) }
 {
     let uv = Plane {
         elements: uv,

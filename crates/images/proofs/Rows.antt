@@ -3,13 +3,14 @@
 -- Assumes nothing.
 use mathlib.Core.Path.{◌≡◌, refl, sym}
 use mathlib.Core.Bool.{Bool, true, false, cond}
-use Prim.Native.Nat.{ℕ, ◌+◌, ◌/◌, ◌%◌, ◌≤◌, ◌<◌}
+use Prim.Native.Nat.{ℕ, ◌/◌, ◌%◌, ◌≤◌, ◌<◌}
 use native.Mathlib.Omega.{arith}
 use borrow.Author.Tests.{ltb-false, eq-eqb, ne_eqb}
 use lib.Dec.{eqb, ltb}
 use Rattle.yuv_support.specs.declared.YuvChromaSubsampling.{YuvChromaSubsampling}
 use Rattle.yuv_support.specs.declared.YuvChromaSubsampling.TheVariants.{Yuv420, Yuv422}
 use Rattle.yuv_support.specs.Blend.{Rows, one, two, rows_of, chroma_height, next_row, near_row, far_row}
+use Rattle.yuv_support.proofs.Blend.{near_row_lt, far_row_lt}
 use Rattle.images.specs.Rows.{second_of, other_row}
 
 far_is_second : (t : Bool) (near far : ℕ) → (t ≡ false → near ≡ far) → far ≡ second_of (cond t two one) near far
@@ -40,25 +41,7 @@ unfolding chroma_height
 chroma_row_exists Yuv420 height h = omega arith
 chroma_row_exists Yuv422 height h = h
 
--- the near row and the other row lie in the planes
-near_of_420_below : (t : Bool) (height row : ℕ) → row < height → cond t (row / 2) (next_row height row) < (height + 1) / 2
-near_of_420_below true height row inside = omega arith
-near_of_420_below false height row inside = omega arith
-
-pub near_row_below : (s : YuvChromaSubsampling) (height row : ℕ) → row < height → near_row s height row < chroma_height s height
-unfolding near_row chroma_height
-near_row_below Yuv420 height row inside = near_of_420_below (eqb (row % 2) 0) height row inside
-near_row_below Yuv422 height row inside = inside
-
-far_of_420_below : (t : Bool) (height row : ℕ) → row < height → cond t (next_row height row) (row / 2) < (height + 1) / 2
-far_of_420_below true height row inside = omega arith
-far_of_420_below false height row inside = omega arith
-
-far_row_below : (s : YuvChromaSubsampling) (height row : ℕ) → row < height → far_row s height row < chroma_height s height
-unfolding far_row chroma_height
-far_row_below Yuv420 height row inside = far_of_420_below (eqb (row % 2) 0) height row inside
-far_row_below Yuv422 height row inside = inside
-
+-- the other row lies in the planes, as the near and the far row do
 second_below : (n : Rows) (near far rows : ℕ) → near < rows → far < rows → second_of n near far < rows
 second_below one near far rows a b = a
 second_below two near far rows a b = b
@@ -66,7 +49,7 @@ second_below two near far rows a b = b
 pub other_row_below : (s : YuvChromaSubsampling) (height row : ℕ) → row < height → other_row s height row < chroma_height s height
 unfolding other_row
 other_row_below s height row inside =
-    second_below (rows_of s height row) _ _ (chroma_height s height) (near_row_below s height row inside) (far_row_below s height row inside)
+    second_below (rows_of s height row) _ _ (chroma_height s height) (near_row_lt s height row inside) (far_row_lt s height row inside)
 
 -- they are neighbours or the same
 near_far_of_420 : (t : Bool) (height row : ℕ) → row < height

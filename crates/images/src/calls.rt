@@ -1,4 +1,7 @@
 // The questions of whole calls: of a conversion, of a band of rows, of the settings alone, and of the two readers.
+// Codes are numbers here, since questions 1 and 2 are asked of them. Codes, geometry, lengths and stride stay four parameters: C hands over
+// the four, and a picture has them as one (`YuvPlanarImage::check_conversion`). That the settings are `decoded codes` is said of each result:
+// a type that says it would have to hold the codes as well.
 ghost use Rattle.std.specs.Prelude.{◌≡◌, ◌≤◌, ◌<◌, ◌*◌, ◌∷◌, [], cond, leb, Ok, Err, IfOk, T};
 ghost use Rattle.yuv_support.specs.Settings.{among, sampling_of, order_of, depths};
 ghost use Rattle.yuv_support.specs.Picture.{channels_of};
@@ -13,6 +16,7 @@ ghost use Rattle.images.specs.Plane.{plane_of};
 use crate::Lengths;
 use crate::planes::{ChromaPlane, check_chroma_channels, check_constraints};
 use sample::depths::{Depths, EitherElement};
+use sample::plane::Size;
 use yuv_error::buffers::{ask, check_rgba_destination, check_sides};
 use yuv_error::{Buffer, YuvError};
 use yuv_support::known_codes::{MatrixCode, PackingCode};
@@ -30,12 +34,10 @@ pub struct ChromaRow {
 
 // Question 1, and what the code stands for.
 pub fn check_sampling(code: u32) -> Result<YuvChromaSubsampling, YuvError>
-    ensures { result ≡ cond (leb code 1) (Ok (sampling_of code)) (Err UnknownSampling) }
+    ensures answer { result ≡ cond (leb code 1) (Ok (sampling_of code)) (Err UnknownSampling) }
+    ensures sampling { IfOk result (λ s. s ≡ sampling_of code) }
 {
-    match YuvChromaSubsampling::try_from(code) {
-        Ok(sampling) => Ok(sampling),
-        Err(_) => Err(YuvError::UnknownSampling),
-    }
+    YuvChromaSubsampling::try_from(code).map_err(|_| YuvError::UnknownSampling)
 }
 
 // Question 2, and the settings in a sampling. Which depths are known goes by the element of the planes.
@@ -84,18 +86,6 @@ pub fn check_codes<D: Depths>(codes: Codes) -> Result<(), YuvError>
 
 // Questions 1 and 2, and the settings that the codes stand for.
 #[tactic(auto, unfolding(yuv_error::specs::Asked::asked))]
-fn known_settings<D: Depths>(codes: Codes) -> Result<Settings, YuvError>
-    ensures answer { result
-        ≡ giving (asked
-        (sampling_known codes.sampling ∷ codes_known (among codes.depth D.known) codes
-        ∷ [])) (decoded codes) }
-    ensures depth { IfOk result (λ s. T (among s.depth depths)) }
-{
-    let sampling = check_sampling(codes.sampling)?;
-    settings_in::<D>(sampling, codes)
-}
-
-// The same; what an accepted call gives is the settings.
 pub fn decode<D: Depths>(codes: Codes) -> Result<Settings, YuvError>
     ensures answer { result
         ≡ giving (asked
@@ -104,7 +94,8 @@ pub fn decode<D: Depths>(codes: Codes) -> Result<Settings, YuvError>
     ensures settings { IfOk result (λ s. s ≡ decoded codes) }
     ensures depth { IfOk result (λ s. T (among s.depth depths)) }
 {
-    known_settings::<D>(codes)
+    let sampling = check_sampling(codes.sampling)?;
+    settings_in::<D>(sampling, codes)
 }
 
 // Question 13.
@@ -140,6 +131,18 @@ fn check_first_row(first: u32, height: u32) -> Result<(), YuvError>
     )
 }
 
+// The size of a destination: width·channels, and the height.
+fn letters_size(size: Size, order: YuvSourceChannels) -> Size
+    requires { size.width ≤ 16384 }
+    ensures { result ≡ record { width = size.width * channels_of order; height = size.height } }
+{
+    Size {
+        width: crate::row_length(size.width, order),
+        height: size.height,
+    }
+}
+
+// A function beside `check_conversion`: as one, three attempts left open the clauses where a plane or the weights are refused.
 // Questions 1 to 13 of a conversion whose planes have elements of the type D: the settings, or the error of the first "no".
 #[tactic(auto, unfolding(yuv_error::specs::Asked::asked, yuv_support::specs::Questions::questions_of))]
 fn conversion<D: Depths>(
@@ -155,13 +158,16 @@ fn conversion<D: Depths>(
     ensures settings { IfOk result (λ s. s ≡ decoded codes) }
 {
     let s = decode::<D>(codes)?;
-    check_sides(image.width, image.height)?;
-    let row = crate::row_length(image.width, s.order);
+    let size = Size {
+        width: image.width,
+        height: image.height,
+    };
+    check_sides(size)?;
     let rgb = Buffer {
         length: lengths.rgb,
         stride: rgb_stride,
     };
-    check_rgba_destination(rgb, row, image.height)?;
+    check_rgba_destination(rgb, letters_size(size, s.order))?;
     check_constraints(s.sampling, image, lengths)?;
     check_weights(s)?;
     Ok(s)
@@ -222,22 +228,22 @@ pub fn check_settings(codes: Codes) -> Result<Settings, YuvError>
 #[tactic(auto, unfolding(yuv_error::specs::Asked::asked, yuv_support::specs::Questions::verdict, yuv_support::specs::Questions::row_questions))]
 pub fn check_row(
     order: u32,
-    width: u32,
-    height: u32,
+    size: Size,
     rgb: Buffer,
     row: u32,
 ) -> Result<YuvSourceChannels, YuvError>
     ensures answer { answered result
-        ≡ verdict (row_questions order width height (extent rgb.length rgb.stride) row) }
+        ≡ verdict (row_questions order size.width size.height (extent rgb.length rgb.stride) row) }
     ensures letters { IfOk result (λ o. o ≡ order_of order) }
-    ensures width_most { IfOk result (λ _. width ≤ 16384) }
-    ensures row_below { IfOk result (λ _. row < height) }
-    ensures fits { IfOk result (λ o. needed rgb.stride (width * channels_of o) height ≤ rgb.length) }
+    ensures width_most { IfOk result (λ _. size.width ≤ 16384) }
+    ensures row_below { IfOk result (λ _. row < size.height) }
+    ensures fits { IfOk result (λ o. needed rgb.stride (size.width * channels_of o) size.height
+        ≤ rgb.length) }
 {
     let letters = YuvSourceChannels::try_from(order)?;
-    check_sides(width, height)?;
-    check_rgba_destination(rgb, crate::row_length(width, letters), height)?;
-    check_row_below(row, height)?;
+    check_sides(size)?;
+    check_rgba_destination(rgb, letters_size(size, letters))?;
+    check_row_below(row, size.height)?;
     Ok(letters)
 }
 
@@ -246,27 +252,26 @@ pub fn check_row(
 pub fn check_chroma_row(
     sampling: u32,
     wanted: u32,
-    width: u32,
-    height: u32,
+    size: Size,
     u: Buffer,
     v: Buffer,
     row: u32,
 ) -> Result<ChromaRow, YuvError>
     ensures answer { answered result
-        ≡ verdict (chroma_row_questions sampling wanted width height (extent u.length u.stride)
-        (extent v.length v.stride) row) }
+        ≡ verdict (chroma_row_questions sampling wanted size.width size.height
+        (extent u.length u.stride) (extent v.length v.stride) row) }
     ensures sampling { IfOk result (λ p. p.sampling ≡ sampling_of sampling) }
     ensures plane { IfOk result (λ p. p.plane ≡ plane_of wanted) }
-    ensures row_below { IfOk result (λ _. row < height) }
-    ensures u_fits { IfOk result (λ p. needed u.stride (chroma_width width) (chroma_height p.sampling height)
-        ≤ u.length) }
-    ensures v_fits { IfOk result (λ p. needed v.stride (chroma_width width) (chroma_height p.sampling height)
-        ≤ v.length) }
+    ensures row_below { IfOk result (λ _. row < size.height) }
+    ensures u_fits { IfOk result (λ p. needed u.stride (chroma_width size.width)
+        (chroma_height p.sampling size.height) ≤ u.length) }
+    ensures v_fits { IfOk result (λ p. needed v.stride (chroma_width size.width)
+        (chroma_height p.sampling size.height) ≤ v.length) }
 {
     let sampling = check_sampling(sampling)?;
     let plane = ChromaPlane::try_from(wanted)?;
-    check_sides(width, height)?;
-    check_chroma_channels(sampling, width, height, u, v)?;
-    check_row_below(row, height)?;
+    check_sides(size)?;
+    check_chroma_channels(sampling, size, u, v)?;
+    check_row_below(row, size.height)?;
     Ok(ChromaRow { sampling, plane })
 }

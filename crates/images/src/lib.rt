@@ -17,10 +17,10 @@ pub use crate::calls::{
 };
 pub use crate::picture::YuvPlanarImage;
 pub use crate::planes::{ChromaPlane, check_constraints};
-use sample::plane::Plane;
+use sample::plane::{Plane, Size};
 use yuv_support::{YuvChromaSubsampling, YuvSourceChannels};
 
-// How many elements the four buffers have.
+// How many elements the four buffers have. No `Buffer`s, which would have the strides too: C gives strides and lengths apart, the strides in `Geometry`.
 #[derive(Clone, Copy)]
 pub struct Lengths {
     pub y: u64,
@@ -44,6 +44,20 @@ pub fn chroma_height(sampling: YuvChromaSubsampling, height: u32) -> u32
     match sampling {
         YuvChromaSubsampling::Yuv420 => height.div_ceil(2),
         YuvChromaSubsampling::Yuv422 => height,
+    }
+}
+
+// The size of a chroma plane, from that of the luma plane.
+pub fn chroma_size(sampling: YuvChromaSubsampling, size: Size) -> Size
+    ensures { result
+        ≡ record {
+          width = chroma_width size.width;
+          height = chroma_height sampling size.height;
+        } }
+{
+    Size {
+        width: chroma_width(size.width),
+        height: chroma_height(sampling, size.height),
     }
 }
 
@@ -74,6 +88,7 @@ pub fn near_row(sampling: YuvChromaSubsampling, height: u32, row: u32) -> u32
 }
 
 // The far chroma row of a luma row; where it blends only one chroma row, that one again.
+// Apart from `near_row`, whose arms are these exchanged: one function for both would need a flag for the row that is wanted.
 #[tactic(auto, using(crate::proofs::Rows::other_of_even, crate::proofs::Rows::other_of_odd, crate::proofs::Rows::other_of_422))]
 fn other_row(sampling: YuvChromaSubsampling, height: u32, row: u32) -> u32
     requires { row < height }
@@ -99,14 +114,14 @@ pub struct ChromaRows {
     pub columns: u32,
 }
 
-pub fn chroma_rows(sampling: YuvChromaSubsampling, width: u32, height: u32, row: u32) -> ChromaRows
-    requires { row < height }
-    ensures { result ≡ chroma_rows sampling width height row }
+pub fn chroma_rows(sampling: YuvChromaSubsampling, size: Size, row: u32) -> ChromaRows
+    requires { row < size.height }
+    ensures { result ≡ chroma_rows sampling size.width size.height row }
 {
     ChromaRows {
-        near: near_row(sampling, height, row),
-        other: other_row(sampling, height, row),
-        columns: chroma_width(width),
+        near: near_row(sampling, size.height, row),
+        other: other_row(sampling, size.height, row),
+        columns: chroma_width(size.width),
     }
 }
 

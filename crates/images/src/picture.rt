@@ -1,4 +1,4 @@
-// A planar picture: three lent planes with their strides, and the sides of the luma plane.
+// A planar picture: three lent planes with their strides, and the sides of the luma plane. Slices beside strides and no `Plane`s, as in the source.
 ghost use Rattle.std.specs.Prelude.{◌≡◌, ◌≤◌, length, IfOk};
 ghost use Rattle.yuv_support.specs.Settings.{among};
 ghost use Rattle.yuv_support.specs.Questions.{verdict, decoded, questions_of, band_questions};

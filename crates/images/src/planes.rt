@@ -10,6 +10,7 @@ ghost use Rattle.images.specs.Request.{constraints};
 ghost use Rattle.images.specs.Plane.{plane_of};
 
 use crate::Lengths;
+use sample::plane::Size;
 use yuv_error::{Buffer, Channel, YuvError};
 use yuv_support::known_codes::UnknownCode;
 use yuv_support::{Geometry, YuvChromaSubsampling};
@@ -39,25 +40,23 @@ impl TryFrom<u32> for ChromaPlane {
 #[tactic(auto, unfolding(yuv_error::specs::Asked::asked))]
 pub fn check_chroma_channels(
     sampling: YuvChromaSubsampling,
-    width: u32,
-    height: u32,
+    size: Size,
     u: Buffer,
     v: Buffer,
 ) -> Result<(), YuvError>
     ensures answer { result
-        ≡ asked (chroma_planes sampling width height (extent u.length u.stride)
+        ≡ asked (chroma_planes sampling size.width size.height (extent u.length u.stride)
         (extent v.length v.stride)) }
-    ensures u_wide { IfOk result (λ _. chroma_width width ≤ u.stride) }
-    ensures u_fits { IfOk result (λ _. needed u.stride (chroma_width width) (chroma_height sampling height)
-        ≤ u.length) }
-    ensures v_wide { IfOk result (λ _. chroma_width width ≤ v.stride) }
-    ensures v_fits { IfOk result (λ _. needed v.stride (chroma_width width) (chroma_height sampling height)
-        ≤ v.length) }
+    ensures u_wide { IfOk result (λ _. chroma_width size.width ≤ u.stride) }
+    ensures u_fits { IfOk result (λ _. needed u.stride (chroma_width size.width)
+        (chroma_height sampling size.height) ≤ u.length) }
+    ensures v_wide { IfOk result (λ _. chroma_width size.width ≤ v.stride) }
+    ensures v_fits { IfOk result (λ _. needed v.stride (chroma_width size.width)
+        (chroma_height sampling size.height) ≤ v.length) }
 {
-    let columns = crate::chroma_width(width);
-    let rows = crate::chroma_height(sampling, height);
-    Channel::U.check(u, columns, rows)?;
-    Channel::V.check(v, columns, rows)
+    let chroma = crate::chroma_size(sampling, size);
+    Channel::U.check(u, chroma)?;
+    Channel::V.check(v, chroma)
 }
 
 // Questions 7 to 12: luma, then chroma.
@@ -90,6 +89,10 @@ pub fn check_constraints(
         length: lengths.v,
         stride: image.v_stride,
     };
-    Channel::Y.check(y, image.width, image.height)?;
-    check_chroma_channels(sampling, image.width, image.height, u, v)
+    let size = Size {
+        width: image.width,
+        height: image.height,
+    };
+    Channel::Y.check(y, size)?;
+    check_chroma_channels(sampling, size, u, v)
 }

@@ -1,38 +1,30 @@
 // Pixels one by one.
 ghost use Rattle.std.specs.Prelude.{◌≡◌, [], ◌⊎◌, ℕ, ◌+◌, ◌*◌, ◌≤◌, ◌<◌, length};
 ghost use Rattle.std.proofs.lemmas.List.Edits.{sets};
-ghost use Rattle.yuv_support.specs.Picture.{row_of};
 ghost use Rattle.numerics.specs.Kernel.{below_at, above_at};
-ghost use Rattle.numerics.specs.Row.{row_value, at, stored, clipped_over, BlockFits};
+ghost use Rattle.numerics.specs.Row.{stored};
+ghost use Rattle.blocks.specs.Source.{pixels_fit, pixel_letters, pixels_clipped};
 
 use blocks::block::Block;
-use numerics::Kernel;
+use blocks::chroma::Pixels;
 use sample::{read, write};
 use yuv_support::Clipped;
 
 // The letters of one pixel, from a place on.
-fn single<S: Block>(
-    row: &mut [S],
-    place: usize,
-    y: u16,
-    p: u16,
-    q: u16,
-    letters: usize,
-    k: Kernel,
-) -> Clipped
-    requires kernel { S.kernel k }
-    requires letters { (letters ≡ 3) ⊎ (letters ≡ 4) }
-    requires inside { place + letters ≤ length (S.numbers row.old) }
+fn single<S: Block>(row: &mut [S], place: usize, y: u16, p: u16, q: u16, pixels: Pixels) -> Clipped
+    requires kernel { S.kernel pixels.k }
+    requires letters { (pixels.letters ≡ 3) ⊎ (pixels.letters ≡ 4) }
+    requires inside { place + pixels.letters ≤ length (S.numbers row.old) }
     requires samples { (y ≤ S.most) × (p ≤ S.most) × (q ≤ S.most) }
-    ensures row { S.numbers row.new ≡ sets (S.numbers row.old) place (stored k letters y p q) }
-    ensures counts { result ≡ record { below = below_at k y p q; above = above_at k y p q } }
+    ensures row { S.numbers row.new ≡ sets (S.numbers row.old) place (stored pixels.k pixels.letters y p q) }
+    ensures counts { result ≡ record { below = below_at pixels.k y p q; above = above_at pixels.k y p q } }
 {
-    let a = S::pixel(k, y, p, q);
+    let a = S::pixel(pixels.k, y, p, q);
     write(row, place, a.first);
     write(row, place + 1, a.green);
     write(row, place + 2, a.third);
-    if letters == 4 {
-        write(row, place + 3, k.max);
+    if pixels.letters == 4 {
+        write(row, place + 3, pixels.k.max);
     }
     Clipped {
         below: a.below as u32,
@@ -41,31 +33,17 @@ fn single<S: Block>(
 }
 
 // The pixels of luma y, with chroma p and q, one by one.
-pub fn singles<S: Block>(
-    row: &mut [S],
-    y: &[S],
-    p: &[S],
-    q: &[S],
-    letters: usize,
-    k: Kernel,
-) -> Clipped
-    requires kernel { S.kernel k }
-    requires fits { BlockFits letters (length (S.numbers y.now)) 0 (S.numbers row.old) (S.numbers y.now) (S.numbers p.now) (S.numbers q.now) [] }
+pub fn singles<S: Block>(row: &mut [S], y: &[S], p: &[S], q: &[S], pixels: Pixels) -> Clipped
+    requires kernel { S.kernel pixels.k }
+    requires fits { pixels_fit S.numbers pixels.letters row.old y.now p.now q.now }
     requires most { length (S.numbers y.now) ≤ 16384 }
-    ensures row { S.numbers row.new ≡ row_of (λ r. row_value k letters (at (S.numbers y.now)) (at (S.numbers p.now)) (at (S.numbers q.now))) 0 (S.numbers row.old) }
-    ensures counts { result ≡ clipped_over k (at (S.numbers y.now)) (at (S.numbers p.now)) (at (S.numbers q.now)) (length (S.numbers y.now)) }
+    ensures row { S.numbers row.new ≡ pixel_letters S.numbers pixels y.now p.now q.now row.old }
+    ensures counts { result ≡ pixels_clipped S.numbers pixels.k y.now p.now q.now }
 {
     let mut clipped = Clipped { below: 0, above: 0 };
-    for c in 0..y.len() {
-        let one = single(
-            row,
-            letters * c,
-            read(y, c),
-            read(p, c),
-            read(q, c),
-            letters,
-            k,
-        );
+    for (c, luma) in y.iter().enumerate() {
+        let place = pixels.letters * c;
+        let one = single(row, place, luma.to_u16(), read(p, c), read(q, c), pixels);
         clipped = numerics::both(clipped, one);
     }
     clipped

@@ -1,97 +1,57 @@
 // Whole rows.
-ghost use Rattle.std.specs.Prelude.{◌≡◌, ℕ, ◌+◌, ◌-◌, ◌*◌, ◌≤◌, ◌<◌, length};
+ghost use Rattle.std.specs.Prelude.{◌≡◌, ◌-◌, ◌≤◌, ◌<◌};
 ghost use Rattle.yuv_support.specs.Blend.{chroma_width};
-ghost use Rattle.yuv_support.specs.Picture.{row_of};
-ghost use Rattle.numerics.specs.Row.{at, whole_value, whole_clipped, row_chroma, RowFits};
-ghost use Rattle.blocks.specs.Parts.{Room};
+ghost use Rattle.blocks.specs.Source.{row_letters, row_clipped, row_fits};
 
 use crate::groups::groups;
 use crate::singles::singles;
 use blocks::block::Block;
-use blocks::chroma::{ChromaRows, Scratch, blend_any, put_tail};
-use numerics::Kernel;
-use sample::Sample;
+use blocks::chroma::{Pixels, Scratch, Source, blend_any};
 use yuv_support::Clipped;
 
-// Chroma at the columns of a row of fewer than 8 pairs before its tail.
-fn narrow_chroma<S: Sample>(
-    d: &mut [S],
-    rows: &ChromaRows<'_, S>,
-    width: usize,
-    pairs: usize,
-    half: u32,
-)
-    requires room { 16 ≤ length (S.numbers d.old) }
-    requires pairs { (pairs ≡ chroma_width width - 1) × (pairs < 8) }
-    requires samples { (pairs < length (S.numbers rows.now.near.now)) × (pairs < length (S.numbers rows.now.far.now)) }
-    requires some { 1 ≤ width }
-    requires half { half ≡ 8 }
-    ensures chroma { (c : ℕ) → c < width → at (S.numbers d.new) c ≡ row_chroma width (S.numbers rows.now.near.now) (S.numbers rows.now.far.now) (S.number rows.now.tail) c }
-    ensures kept { length (S.numbers d.new) ≡ length (S.numbers d.old) }
+// A row of fewer than 8 pairs before its tail. The arrays begin as the tail's chroma, and the pairs' is put over it.
+fn narrow<S: Block>(row: &mut [S], source: &Source<'_, S>, width: usize, pixels: Pixels) -> Clipped
+    requires kernel { S.kernel pixels.k }
+    requires fits { row_fits S.numbers pixels.letters row.old source.now width }
+    requires few { chroma_width width ≤ 8 }
+    ensures row { S.numbers row.new ≡ row_letters S.numbers S.number pixels width source.now row.old }
+    ensures counts { result ≡ row_clipped S.numbers S.number pixels.k width source.now }
 {
-    blend_any(d, rows.near, rows.far, pairs, half);
-    put_tail(d, rows.tail, pairs, pairs + 1);
-}
-
-// A row of fewer than 8 pairs before its tail.
-fn narrow<S: Block>(
-    row: &mut [S],
-    y: &[S],
-    first: &ChromaRows<'_, S>,
-    third: &ChromaRows<'_, S>,
-    scratch: &mut Scratch<'_, '_, '_, '_, S>,
-    pairs: usize,
-    letters: usize,
-    k: Kernel,
-) -> Clipped
-    requires kernel { S.kernel k }
-    requires fits { RowFits letters (S.numbers row.old) (S.numbers y.now) (S.numbers first.now.near.now) (S.numbers first.now.far.now) (S.numbers third.now.near.now) (S.numbers third.now.far.now) (length (S.numbers y.now)) }
-    requires pairs { (pairs ≡ chroma_width (length (S.numbers y.now)) - 1) × (pairs < 8) }
-    requires room { Room (S.numbers scratch.old.p.now) (S.numbers scratch.old.q.now) scratch.old.sums.now scratch.old.words.now }
-    ensures row { S.numbers row.new ≡ row_of (λ r. whole_value k letters (length (S.numbers y.now)) (S.numbers y.now) (S.numbers first.now.near.now) (S.numbers first.now.far.now) (S.numbers third.now.near.now) (S.numbers third.now.far.now) (S.number first.now.tail) (S.number third.now.tail)) 0 (S.numbers row.old) }
-    ensures counts { result ≡ whole_clipped k (length (S.numbers y.now)) (S.numbers y.now) (S.numbers first.now.near.now) (S.numbers first.now.far.now) (S.numbers third.now.near.now) (S.numbers third.now.far.now) (S.number first.now.tail) (S.number third.now.tail) }
-    ensures room { Room (S.numbers scratch.new.p.now) (S.numbers scratch.new.q.now) scratch.new.sums.now scratch.new.words.now }
-{
-    let width = y.len();
-    narrow_chroma(scratch.p, first, width, pairs, k.half);
-    narrow_chroma(scratch.q, third, width, pairs, k.half);
-    let p = &mut *scratch.p;
-    let q = &mut *scratch.q;
-    singles(row, y, p, q, letters, k)
+    let pairs = width.div_ceil(2) - 1;
+    let half = pixels.k.half;
+    let first = &source.first;
+    let third = &source.third;
+    let mut p = [first.tail; 16];
+    let mut q = [third.tail; 16];
+    blend_any(&mut p, first.near, first.far, pairs, half);
+    blend_any(&mut q, third.near, third.far, pairs, half);
+    singles(row, &source.y[..width], &p, &q, pixels)
 }
 
 // A whole row of three or four letters to the pixel.
 pub fn interpolate<S: Block>(
     row: &mut [S],
-    y: &[S],
-    first: &ChromaRows<'_, S>,
-    third: &ChromaRows<'_, S>,
-    scratch: &mut Scratch<'_, '_, '_, '_, S>,
+    source: &Source<'_, S>,
+    scratch: &mut Scratch<S>,
     width: usize,
-    letters: usize,
-    k: Kernel,
+    pixels: Pixels,
 ) -> Clipped
-    requires kernel { S.kernel k }
-    requires fits { RowFits letters (S.numbers row.old) (S.numbers y.now) (S.numbers first.now.near.now) (S.numbers first.now.far.now) (S.numbers third.now.near.now) (S.numbers third.now.far.now) width }
-    requires room { Room (S.numbers scratch.old.p.now) (S.numbers scratch.old.q.now) scratch.old.sums.now scratch.old.words.now }
-    ensures row { S.numbers row.new ≡ row_of (λ r. whole_value k letters width (S.numbers y.now) (S.numbers first.now.near.now) (S.numbers first.now.far.now) (S.numbers third.now.near.now) (S.numbers third.now.far.now) (S.number first.now.tail) (S.number third.now.tail)) 0 (S.numbers row.old) }
-    ensures counts { result ≡ whole_clipped k width (S.numbers y.now) (S.numbers first.now.near.now) (S.numbers first.now.far.now) (S.numbers third.now.near.now) (S.numbers third.now.far.now) (S.number first.now.tail) (S.number third.now.tail) }
-    ensures room { Room (S.numbers scratch.new.p.now) (S.numbers scratch.new.q.now) scratch.new.sums.now scratch.new.words.now }
+    requires kernel { S.kernel pixels.k }
+    requires fits { row_fits S.numbers pixels.letters row.old source.now width }
+    ensures row { S.numbers row.new ≡ row_letters S.numbers S.number pixels width source.now row.old }
+    ensures counts { result ≡ row_clipped S.numbers S.number pixels.k width source.now }
 {
-    let samples = (width + 1) / 2;
-    let pairs = samples - 1;
-    if pairs < 8 {
-        return narrow(row, &y[..width], first, third, scratch, pairs, letters, k);
+    let samples = width.div_ceil(2);
+    if samples <= 8 {
+        return narrow(row, source, width, pixels);
     }
     let all = numerics::grouped(width);
     let from = 2 * all;
-    let a = letters * from;
-    let b = letters * width;
-    let before = groups(row, y, first, third, scratch, all, samples, letters, k);
-    put_tail(scratch.p, first.tail, 0, 1);
-    put_tail(scratch.q, third.tail, 0, 1);
-    let p = &mut *scratch.p;
-    let q = &mut *scratch.q;
-    let after = singles(&mut row[a..b], &y[from..width], p, q, letters, k);
+    let a = pixels.letters * from;
+    let b = pixels.letters * width;
+    let p = [source.first.tail; 2];
+    let q = [source.third.tail; 2];
+    let before = groups(row, source, scratch, all, samples, pixels);
+    let after = singles(&mut row[a..b], &source.y[from..width], &p, &q, pixels);
     numerics::both(before, after)
 }

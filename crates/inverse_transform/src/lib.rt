@@ -11,7 +11,7 @@ use yuv_support::{
     CbCrInverseTransform, InverseTransformF32, Settings, YuvBias, YuvRange, YuvStandardMatrix,
 };
 
-// The weights of a matrix; Custom carries its own.
+// The weights of a matrix; Custom carries its own. A match, since each case has decimals of its own, which no derive says.
 pub fn get_kr_kb(matrix: YuvStandardMatrix) -> YuvBias
     ensures { result ≡ weights_of matrix }
 {
@@ -96,7 +96,7 @@ fn round_bits(bits: u32) -> u32
 pub fn round_to_u32(x: f32) -> u32
     ensures { result ≡ round_away x }
 {
-    if x != x {
+    if x.is_nan() {
         return 0;
     }
     round_bits(f32::to_bits(x))
@@ -110,6 +110,7 @@ fn to_integer(x: f32) -> u32
     round_to_u32(x * 8192.0)
 }
 
+// The five integers. No `From`: both types are yuv_support's, and so no `impl` may be here.
 pub fn to_integers(t: InverseTransformF32) -> CbCrInverseTransform
     ensures { result ≡ to_integers t }
 {
@@ -139,10 +140,8 @@ pub fn search_inverse_transform(s: Settings) -> CbCrInverseTransform
     ensures { result ≡ coefficients_of s }
 {
     let mode = s.mode;
-    match built_coefficients::get_built_inverse_transform(s.depth, s.range, s.matrix, mode) {
-        Some(row) => row,
-        None => computed(s.depth, s.range, s.matrix),
-    }
+    let row = built_coefficients::get_built_inverse_transform(s.depth, s.range, s.matrix, mode);
+    row.unwrap_or_else(|| computed(s.depth, s.range, s.matrix))
 }
 
 // From 0 to 1, ends included; a NaN is no weight.

@@ -19,12 +19,13 @@ use Rattle.yuv_support.specs.Blend.{Frame, Chroma, chroma_blue, chroma_red, Rows
 use Rattle.yuv_support.specs.Picture.{channels_of, row_of, element_of}
 use Rattle.yuv_support.specs.Counts.{clipped_row}
 use Rattle.yuv_support.specs.Questions.{needed, part_of}
+use Rattle.yuv_support.proofs.Blend.{near_row_lt}
 use Rattle.yuv_support.proofs.Depths.{by_depth}
 use Rattle.yuv_support.proofs.Packing.{unpacked_le, samples_length, samples_at, low_samples}
 use Rattle.yuv_support.proofs.Rows.{row_fits, part_length, part_at}
 use Rattle.images.specs.declared.ChromaRows.{ChromaRows}
 use Rattle.images.specs.Rows.{second_of, other_row, chroma_rows}
-use Rattle.images.proofs.Rows.{near_row_below, other_row_below}
+use Rattle.images.proofs.Rows.{other_row_below}
 use Rattle.numerics.specs.declared.Kernel.{Kernel}
 use Rattle.numerics.specs.Kernel.{Bytes, Words}
 use Rattle.numerics.specs.Row.{at}
@@ -109,7 +110,7 @@ module _ {s : Settings} {f : Frame} {k : Kernel} (ready : Ready s f k) (row : â„
 
   pub parts_in : PartsIn f row p
   parts_in =
-      let near : p.near < chroma_height s.sampling f.height = rw is (near_row_below s.sampling f.height row inside) in
+      let near : p.near < chroma_height s.sampling f.height = rw is (near_row_lt s.sampling f.height row inside) in
       let other : p.other < chroma_height s.sampling f.height = rw is (other_row_below s.sampling f.height row inside) in
       record {
         y = row_fits f.y_stride f.width f.height row (length f.y) ready.y_length inside;

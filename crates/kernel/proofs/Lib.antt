@@ -5,4 +5,5 @@ pub mod Frames
 pub mod Ordered
 pub mod Widths
 pub mod Accepted
+pub mod Promises
 pub mod Loops

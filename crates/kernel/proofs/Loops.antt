@@ -15,7 +15,7 @@ use Rattle.yuv_support.specs.Counts.{clipped_row, clipped_in, unclipped, togethe
 use Rattle.yuv_support.specs.Picture.{row_of, painted}
 use Rattle.yuv_support.specs.Questions.{needed}
 use Rattle.yuv_support.proofs.Counts.{band_none, band_more, band_most, sides_most}
-use Rattle.yuv_support.proofs.Rows.{painted_none, painted_length, row_fits, row_length, row_back}
+use Rattle.yuv_support.proofs.Rows.{painted_none, painted_length, row_fits, row_back}
 
 -- the rows from `first` to r are written, and every row up to `end` lies in the destination
 pub record RowsDone (f : ℕ → ℕ → ℕ) (stride n first end : ℕ) (rgb₀ rgb : List ℕ) (r : ℕ) : Type 0 where
@@ -41,10 +41,6 @@ module _ {f : ℕ → ℕ → ℕ} {stride n first end : ℕ} {rgb₀ : List ℕ
       }
 
   module _ {rgb : List ℕ} {r : ℕ} (d : RowsDone f stride n first end rgb₀ rgb r) (t : r < end) where
-    -- the next row, as a lent part, is as long as a row
-    pub next_length : length (take (stride * r + n - stride * r) (drop (stride * r) rgb)) ≡ n
-    next_length = row_length stride n r rgb (rw d.same (d.room r t))
-
     pub rows_next : {row : List ℕ} → row ≡ row_of f r (take (stride * r + n - stride * r) (drop (stride * r) rgb))
         → RowsDone f stride n first end rgb₀ (put_mid (stride * r) (stride * r + n - stride * r) rgb row) (r + 1)
     rows_next {row} e =
@@ -92,7 +88,3 @@ module _ {s : Settings} {f : Frame} {first : ℕ} where
 
     pub counted_next : {z : Clipped} → z ≡ together clipped x → RowsCounted s f first z (r + 1)
     counted_next i = record { told = i ∙ with_next }
-
-  pub counted_end : {clipped : Clipped} {r end : ℕ} (count : ℕ) → end ≡ first + count → r ≤ end → RowsCounted s f first clipped r → end ≤ r
-      → clipped ≡ clipped_in s f first count
-  counted_end {clipped} {r} count h b c l = let e : r - first ≡ count = omega arith in c.told ∙ rw e

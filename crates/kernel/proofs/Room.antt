@@ -40,6 +40,15 @@ same_level o a b c h k = omega arith
 green_level : (o a b g : ℕ) → a + b ≤ o → o + g - a ≡ o - (a + b) + b + g
 green_level o a b g h = omega arith
 
+-- the sums of the code are no larger than a u32, and what it takes away is no larger than what it is taken from
+pub record Sums (by bc offset ky kp gp gq kq : ℕ) : Type 0 where
+  pub scaled : offset * 8192 ≤ 4294967295
+  pub zero : offset * 8192 + 4096 ≤ 4294967295
+  pub first : ky * by + kp * bc ≤ offset * 8192 + 4096
+  pub green : offset * 8192 + 4096 + (gp + gq) * bc ≤ 4294967295
+  pub luma : ky * by ≤ offset * 8192 + 4096 + (gp + gq) * bc
+  pub third : ky * by + kq * bc ≤ offset * 8192 + 4096
+
 module _ (ky kp gp gq kq : ℕ) (n : Narrow (record { y = ky; cr = kp; cb = kq; g1 = gp; g2 = gq })) where
   abbrev RoomAt : YuvRange → ℕ → Type 0
   RoomAt r d = Room (bias_y d r) (bias_c d) (offset_of d) (most_of d) ky kp gp gq kq
@@ -66,11 +75,6 @@ module _ (ky kp gp gq kq : ℕ) (n : Narrow (record { y = ky; cr = kp; cb = kq; 
       (record { top = omega arith; first = omega arith; third = omega arith; green_bias = omega arith; green = omega arith })
       (record { top = omega arith; first = omega arith; third = omega arith; green_bias = omega arith; green = omega arith })
       d t
-
-  -- with what the code finds for the biases and the offset
-  pub room_found : {found : YuvChromaRange} {offset : ℕ} (d : ℕ) (r : YuvRange) → T (among d depths) → found ≡ chroma_range_of d r → offset ≡ offset_of d
-      → Room found.bias_y found.bias_uv offset (most_of d) ky kp gp gq kq
-  room_found d r t e f = rw (e, f) (room d r t)
 
   abbrev HighAt : YuvRange → ℕ → Type 0
   HighAt r d = High (lettered d r ky kp gp gq kq)
@@ -114,3 +118,17 @@ module _ (ky kp gp gq kq : ℕ) (n : Narrow (record { y = ky; cr = kp; cb = kq; 
         level_third = rw (middle_is d t) (same_level (offset_of d * 8192 + 4096) (ky * bias_y d r) (kq * bias_c d) (kp * bias_c d) m.third m.first);
         level_green = rw (middle_is d t) (green_level (offset_of d * 8192 + 4096) (ky * bias_y d r) (kp * bias_c d) ((gp + gq) * bias_c d) m.first);
       }
+
+-- with what the code finds for the biases and the offset
+pub sums_found : {ky kp gp gq kq : ℕ} (d : ℕ) (r : YuvRange) {found : YuvChromaRange} {offset : ℕ} → Narrow (record { y = ky; cr = kp; cb = kq; g1 = gp; g2 = gq }) → T (among d depths)
+    → found ≡ chroma_range_of d r → offset ≡ offset_of d → Sums found.bias_y found.bias_uv offset ky kp gp gq kq
+sums_found {ky} {kp} {gp} {gq} {kq} d r n t e f =
+    rw (e, f)
+    (let m = room ky kp gp gq kq n d r t in record {
+      scaled = omega (arith, m.top);
+      zero = omega (arith, m.top);
+      first = m.first;
+      green = omega (arith, m.top, m.green_bias);
+      luma = omega (arith, m.first);
+      third = m.third;
+    })

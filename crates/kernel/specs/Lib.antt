@@ -1,2 +1,3 @@
 pub mod Kernels
 pub mod Ordered
+pub mod Lent

@@ -49,11 +49,11 @@ fn exchanged(t: CbCrInverseTransform) -> CbCrInverseTransform
     ensures { result ≡ record { y = t.y; cr = t.cb; cb = t.cr; g1 = t.g2; g2 = t.g1 } }
 {
     CbCrInverseTransform {
-        y: t.y,
         cr: t.cb,
         cb: t.cr,
         g1: t.g2,
         g2: t.g1,
+        ..t
     }
 }
 

@@ -36,7 +36,7 @@ module _ (k : Kernel) (Y P Q : ℕ → ℕ) where
   unfolding clipped_over
   clipped_more n = rw (total_more (λ c. below_at k (Y c) (P c) (Q c)) n, total_more (λ c. above_at k (Y c) (P c) (Q c)) n)
 
-  -- more columns, of luma and chroma that stand elsewhere
+  -- more columns, of luma and chroma that are elsewhere
   pub clipped_on : (Y' P' Q' : ℕ → ℕ) (a m : ℕ) → ((c : ℕ) → c < m → Y' c ≡ Y (a + c)) → ((c : ℕ) → c < m → P' c ≡ P (a + c)) → ((c : ℕ) → c < m → Q' c ≡ Q (a + c))
       → together (clipped_over k Y P Q a) (clipped_over k Y' P' Q' m) ≡ clipped_over k Y P Q (a + m)
   unfolding clipped_over

@@ -2,7 +2,6 @@ pub mod Choice
 pub mod Clips
 pub mod Lowered
 pub mod Parts
-pub mod Products
 pub mod Row
 pub mod Signed
 pub mod SignedSums

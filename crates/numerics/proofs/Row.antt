@@ -45,7 +45,7 @@ module _ (k : Kernel) (Y P Q : ℕ → ℕ) (column : ℕ) where
       let l = letter_at k 4 Y P Q column in
       (sym (l 0 (lit< tt)), (sym (l 1 (lit< tt)), (sym (l 2 (lit< tt)), (sym (l 3 (lit< tt)), tt))))
 
--- the same values, of luma and chroma that stand elsewhere: what is at column c is at column a + c
+-- the same values, of luma and chroma that are elsewhere: what is at column c is at column a + c
 module _ (k : Kernel) (n : ℕ) (some : 0 < n) (Y P Q Y' P' Q' : ℕ → ℕ) (a m : ℕ) where
   pub value_shifted : ((c : ℕ) → c < m → Y' c ≡ Y (a + c)) → ((c : ℕ) → c < m → P' c ≡ P (a + c)) → ((c : ℕ) → c < m → Q' c ≡ Q (a + c))
       → (x : ℕ) → x < n * m → row_value k n Y' P' Q' x ≡ row_value k n Y P Q (n * a + x)

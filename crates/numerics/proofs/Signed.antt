@@ -1,17 +1,17 @@
--- Numbers with a sign: those that are not below 0, those that fit and are read back from their bits, products, and the letter of a sum.
+-- Numbers with a sign: those that fit and are read back from their bits, products, and the letter of a sum.
 -- A number is shown to fit as a difference of natural numbers (`Is`), which `omega` reads.
 -- Assumes nothing.
-use mathlib.Core.Path.{◌≡◌, refl, subst}
+use mathlib.Core.Path.{◌≡◌, refl}
 use mathlib.Core.Bool.{Bool, true, false, cond}
 use Prim.Native.Nat.{ℕ, ◌+◌, ◌-◌, ◌*◌, ◌/◌, ◌%◌, ◌≤◌, ◌<◌, min}
 use native.Mathlib.Nat.{lt_of_le_of_lt, mul-le-mul}
 use native.Mathlib.Omega.{arith}
 use borrow.Author.Tests.{ltb-true, ltb-false, lt-ltb, le-ltb}
-use lib.Dec.{T, ltb}
-use lib.IntN.{ℤ, pos, negsuc, nat_abs, ◌+ℤ◌, ◌-ℤ◌, ◌*ℤ◌}
-use lib.Signed.{lt_z, non_neg, mag_shr, shr_z}
+use lib.Dec.{ltb}
+use lib.IntN.{ℤ, pos, negsuc, ◌+ℤ◌, ◌-ℤ◌, ◌*ℤ◌}
+use lib.Signed.{lt_z}
 use mir.Syntax.{w16, w32}
-use mir.Val.{Fits, SFits, to_z, of_z}
+use mir.Val.{SFits, to_z, of_z}
 use mir.Facts.{to_z_pos}
 use mir.ValLaws.{to_z-of_z}
 use Rattle.yuv_support.specs.Component.{step, clamp}
@@ -20,39 +20,11 @@ use Rattle.yuv_support.proofs.Sign.{Is, nat, plus, less, shift_is, step_is, mag_
 use Rattle.numerics.specs.Kernel.{letter_of_sum}
 use Rattle.numerics.specs.Signed.{min_z, cut, nat_of, signed_letter}
 
--- ---- not below 0
-
-pub nat_below : (z : ℤ) → lt_z z (pos 0) ≡ true → nat_of z ≡ 0
-nat_below (pos n) t = let h : n < 0 = ltb-true n 0 t in omega arith
-nat_below (negsuc n) t = refl
-
-pub not_below : (z : ℤ) → lt_z z (pos 0) ≡ false → nat_abs z ≡ nat_of z
-not_below (pos n) t = refl
-not_below (negsuc n) t = let e : true ≡ false = t in cc
-
-pub fits_not_below : (z : ℤ) → lt_z z (pos 0) ≡ false → SFits w16 z → T (non_neg z) × Fits w16 (nat_abs z)
-fits_not_below (pos n) t f = (tt, record { fits = omega (arith, f.sfits) })
-fits_not_below (negsuc n) t f = absurd (subst T t tt)
-
 -- ---- that fit
 
 -- a difference of numbers that fit
 pub fits_is : {a b : ℕ} {z : ℤ} → a ≤ 2147483647 → b ≤ 2147483647 → Is a b z → SFits w32 z
 fits_is ha hb h = record { sfits = lt_of_le_of_lt (mag_is 2147483647 ha hb h) (omega arith) }
-
-pub shr_fits : (z : ℤ) (m : ℕ) → SFits w32 z → SFits w32 (shr_z z m)
-shr_fits z m h = record { sfits = lt_of_le_of_lt (mag_shr z m) h.sfits }
-
--- what is not less than the least i16, and what is cut to one
-abbrev pub low : ℤ → ℤ
-low z = cond (lt_z z (negsuc 32767)) (negsuc 32767) z
-
-pub low_fits : (z : ℤ) → SFits w32 z → SFits w32 (low z)
-low_fits z h = go (lt_z z (negsuc 32767))
-  where
-    go : (t : Bool) → SFits w32 (cond t (negsuc 32767) z)
-    go true = record { sfits = omega arith }
-    go false = h
 
 min_pos : (a b : ℕ) → min_z (pos a) (pos b) ≡ pos (min a b)
 min_pos a b = go (ltb b a) refl
@@ -71,19 +43,12 @@ cut_neg n = go (ltb 32767 n) refl
     go true e = let h : 32767 < n = ltb-true 32767 n e in let m : min n 32767 ≡ 32767 = omega arith in rw (e, m)
     go false e = let h : n ≤ 32767 = ltb-false 32767 n e in let m : min n 32767 ≡ n = omega arith in rw (e, m)
 
-pub cut_fits : (z : ℤ) → SFits w16 (cut z)
-cut_fits (pos n) = rw (cut_pos n) (record { sfits = omega arith })
-cut_fits (negsuc n) = rw (cut_neg n) (record { sfits = omega arith })
-
 pub wider : {z : ℤ} → SFits w16 z → SFits w32 z
 wider h = record { sfits = omega (arith, h.sfits) }
 
 -- a number is read back from its bits
 pub read32 : {r z : ℤ} → r ≡ z → SFits w32 z → to_z w32 (of_z w32 r) ≡ z
 read32 {z = z} e h = rw e (to_z-of_z w32 z h)
-
-pub read16 : {r z : ℤ} → r ≡ z → SFits w16 z → to_z w16 (of_z w16 r) ≡ z
-read16 {z = z} e h = rw e (to_z-of_z w16 z h)
 
 -- ---- products
 
@@ -128,9 +93,6 @@ module _ (r b o : ℕ) (hr : r ≤ 1073741823) (hb : b ≤ 1073741823) (ho : o �
   pub luma_is : Is (r + b) o (pos r +ℤ (pos b -ℤ pos o))
   luma_is = shift_is (r + b) o (omega arith) (plus (nat r) (centred_is b o))
 
-  pub luma_fits : SFits w32 (pos r +ℤ (pos b -ℤ pos o))
-  luma_fits = fits_is (omega arith) (omega arith) luma_is
-
   pub base_read : to_z w32 b -ℤ to_z w32 o ≡ pos b -ℤ pos o
   base_read =
       let b' : b < 2147483648 = omega arith in
@@ -146,13 +108,6 @@ module _ (r b o : ℕ) (hr : r ≤ 1073741823) (hb : b ≤ 1073741823) (ho : o �
 
 -- as the leaf makes it of a quotient
 module _ (max : ℕ) (m : max ≤ 4095) where
-  pub least_fits : (z : ℤ) → SFits w16 (min_z (cut z) (pos max))
-  least_fits z = go (lt_z (pos max) (cut z))
-    where
-      go : (t : Bool) → SFits w16 (cond t (pos max) (cut z))
-      go true = record { sfits = omega arith }
-      go false = cut_fits z
-
   pub leaf_value : (z : ℤ) → nat_of (min_z (cut z) (pos max)) ≡ clamp max z
   leaf_value (pos n) = rw (cut_pos n, min_pos (min n 32767) max) (omega arith)
   leaf_value (negsuc n) = rw (cut_neg n)

@@ -14,7 +14,7 @@ use Rattle.yuv_support.specs.Picture.{row_of}
 use Rattle.yuv_support.specs.Counts.{together}
 use Rattle.yuv_support.proofs.Overlay.{value_at}
 use Rattle.numerics.specs.declared.Kernel.{Kernel}
-use Rattle.numerics.specs.Row.{row_value, at, tailed, row_chroma, whole_value, clipped_over, whole_clipped, Begun, BlockFits}
+use Rattle.numerics.specs.Row.{row_value, at, tailed, row_chroma, whole_value, clipped_over, whole_clipped, Begun}
 use Rattle.numerics.proofs.Row.{value_as, row_as, value_shifted, begun_part, begun_whole, part_at, part_long}
 use Rattle.numerics.proofs.Clips.{clipped_as, clipped_on}
 use Rattle.numerics.proofs.Choice.{some_letters}
@@ -60,23 +60,6 @@ module _ (k : Kernel) (n : ℕ) (l : (n ≡ 3) ⊎ (n ≡ 4)) (width : ℕ) (y p
 
     pub last_length : width ≤ length y → length last_luma ≡ width - 2 * all
     last_length h = part_long (2 * all) width y h
-
-    -- what they ask of the parts
-    pub last_fits : (row : List ℕ) → length row ≡ n * width → width ≤ length y
-        → BlockFits n (length last_luma) 0 (cut (n * (2 * all)) (n * width) row) last_luma (tp ∷ tp ∷ []) (tq ∷ tq ∷ []) []
-    last_fits row long h =
-        let t = last_length h in
-        record {
-          letters = l;
-          places = part_long (n * (2 * all)) (n * width) row (omega arith) ∙ apart (2 * all) (width - 2 * all) (omega arith) ∙ rw t;
-          luma = omega arith;
-          first = omega (arith, last_most);
-          third = omega (arith, last_most);
-          room = omega arith;
-        }
-      where
-        apart : (a d : ℕ) → a + d ≡ width → n * width - n * a ≡ n * d
-        apart a d e = rw (← e) (omega arith)
 
     luma_last : (c : ℕ) → c < width - 2 * all → at last_luma c ≡ at y (2 * all + c)
     luma_last c h = part_at (2 * all) width y c h

@@ -80,6 +80,13 @@ word_at k y p q = below_at k y p q + 256 * above_at k y p q
 abbrev pub pair_word : Kernel → (ℕ → ℕ) → (ℕ → ℕ) → (ℕ → ℕ) → ℕ → ℕ
 pair_word k Y P Q j = word_at k (Y (2 * j)) (P (2 * j)) (Q (2 * j)) + word_at k (Y (2 * j + 1)) (P (2 * j + 1)) (Q (2 * j + 1))
 
+-- each of these words of counts holds at most six of either kind; and what they hold together
+abbrev pub words_few : List ℕ → Type 0
+words_few words = (j : ℕ) → j < length words → (at words j % 256 ≤ 6) × (at words j / 256 ≤ 6)
+
+abbrev pub words_counted : List ℕ → Clipped
+words_counted words = record { below = total (λ j. at words j % 256) (length words); above = total (λ j. at words j / 256) (length words) }
+
 -- ---- what the row functions ask of their callers, at n letters to the pixel
 
 -- the first n samples are below 4,096
@@ -120,6 +127,13 @@ pub record Reach (end samples to : ℕ) : Type 0 where
   pub most : to ≤ end + 1
   pub inside : to ≤ samples
   pub last : (to ≡ end + 1) ⊎ (to ≡ samples)
+
+-- the next group after `done` pairs: it begins among them, goes on after them, and has at most 256 of the pairs
+pub record Next (done pairs from eights : ℕ) : Type 0 where
+  pub back : from ≤ done
+  pub on : done < from + 8 * eights
+  pub inside : from + 8 * eights ≤ pairs
+  pub few : eights ≤ 32
 
 -- the samples and the places of a row are there
 pub record RowFits (n : ℕ) (row y pn pf qn qf : List ℕ) (width : ℕ) : Type 0 where

@@ -9,10 +9,10 @@ ghost use Rattle.std.specs.Prelude.{◌≡◌, ℕ, ◌+◌, ◌-◌, ◌*◌, �
 ghost use Rattle.std.specs.Int.Signed.{lt_z};
 ghost use Rattle.yuv_support.specs.Blend.{chroma_red, chroma_width, rounded, tail_of};
 ghost use Rattle.yuv_support.specs.Component.{step};
-ghost use Rattle.yuv_support.specs.Counts.{together, total};
-ghost use Rattle.numerics.specs.Kernel.{letter_of_sum, OneAtMost, letters_of, letters_at, middle, level, Quick, Words, lowered};
+ghost use Rattle.yuv_support.specs.Counts.{together};
+ghost use Rattle.numerics.specs.Kernel.{letter_of_sum, green_sum, OneAtMost, letters_of, letters_at, middle, level, Quick, Words, lowered};
 ghost use Rattle.numerics.specs.Signed.{min_z, cut, nat_of, signed_letter};
-ghost use Rattle.numerics.specs.Row.{at, Reach};
+ghost use Rattle.numerics.specs.Row.{at, words_few, words_counted, Next, Reach};
 
 use sample::Sample;
 use yuv_support::{Clipped, YuvMode};
@@ -20,6 +20,9 @@ use yuv_support::{Clipped, YuvMode};
 // The coefficients of a pixel's letters, with the biases, the rounding and the offset folded into one constant for each letter.
 // half is 8, half of sixteen sixteenths: a number of run time, so that the compiler keeps a blended u16 sample in 16 bits, and does not know
 // the 0 that is made of it.
+// Three functions ask for `half ≡ 8`, and several that a sample is at most 4,095. Both are written out there: a name or a type for such a bound
+// is no plainer, since it says the same number once more elsewhere and has to be unfolded in each proof.
+// A pixel's three samples are parameters of their own: they come from three rows, and each form of a pixel has them in its own order.
 #[derive(Clone, Copy)]
 pub struct Kernel {
     pub offset: u32,
@@ -43,7 +46,7 @@ pub struct Letter {
     pub above: u16,
 }
 
-// The letters of a pixel but for alpha, and how many of them were below 0 and above the largest.
+// The letters of a pixel except alpha, and how many of them were below 0 and above the largest.
 #[derive(Clone, Copy)]
 pub struct Letters {
     pub first: u16,
@@ -172,16 +175,10 @@ pub fn lower(k: Kernel) -> Kernel
     let down = (k.offset - offset) * 8192;
     Kernel {
         offset,
-        max: k.max,
-        y: k.y,
-        first: k.first,
-        green_first: k.green_first,
-        green_third: k.green_third,
-        third: k.third,
         base_first: k.base_first - down,
         base_green: k.base_green - down,
         base_third: k.base_third - down,
-        half: k.half,
+        ..k
     }
 }
 
@@ -201,22 +198,21 @@ fn qrshr16(sum: u32, max: u16) -> Letter
     }
 }
 
-fn outer16(ky: u16, kc: u16, base: u32, max: u16, y: u16, c: u16) -> Letter
-    requires { (ky + kc ≤ 32767) × (base ≤ 2147487744) × (max ≤ 4095) }
-    ensures { result ≡ letter_of_sum 262144 max (ky * y + kc * c + base) }
+// The first or the third letter: `kc` times its chroma sample c.
+fn outer16(k: Kernel, kc: u16, base: u32, y: u16, c: u16) -> Letter
+    requires { (k.y + kc ≤ 32767) × (base ≤ 2147487744) × (k.max ≤ 4095) }
+    ensures { result ≡ letter_of_sum 262144 k.max (k.y * y + kc * c + base) }
 {
-    qrshr16(
-        (ky as u32) * (y as u32) + (kc as u32) * (c as u32) + base,
-        max,
-    )
+    let sum = (k.y as u32) * (y as u32) + (kc as u32) * (c as u32) + base;
+    qrshr16(sum, k.max)
 }
 
-fn inner16(ky: u16, kp: u16, kq: u16, base: u32, max: u16, y: u16, p: u16, q: u16) -> Letter
-    requires { (ky ≤ 16383) × (base ≤ 2214594560) × ((kp + kq) * 65535 ≤ base) × (max ≤ 4095) }
-    ensures { result ≡ letter_of_sum 262144 max (ky * y + base - (kp * p + kq * q)) }
+fn inner16(k: Kernel, y: u16, p: u16, q: u16) -> Letter
+    requires { Words k }
+    ensures { result ≡ letter_of_sum 262144 k.max (green_sum k y p q) }
 {
-    let taken = (kp as u32) * (p as u32) + (kq as u32) * (q as u32);
-    qrshr16((ky as u32) * (y as u32) + base - taken, max)
+    let taken = (k.green_first as u32) * (p as u32) + (k.green_third as u32) * (q as u32);
+    qrshr16((k.y as u32) * (y as u32) + k.base_green - taken, k.max)
 }
 
 // The letters of a pixel of any samples.
@@ -224,19 +220,9 @@ pub fn pixel16(k: Kernel, y: u16, p: u16, q: u16) -> Letters
     requires { Words k }
     ensures { result ≡ letters_at k y p q }
 {
-    let max = k.max;
-    let a = outer16(k.y, k.first, k.base_first, max, y, p);
-    let b = inner16(
-        k.y,
-        k.green_first,
-        k.green_third,
-        k.base_green,
-        max,
-        y,
-        p,
-        q,
-    );
-    let c = outer16(k.y, k.third, k.base_third, max, y, q);
+    let a = outer16(k, k.first, k.base_first, y, p);
+    let b = inner16(k, y, p, q);
+    let c = outer16(k, k.third, k.base_third, y, q);
     joined(a, b, c)
 }
 
@@ -255,8 +241,8 @@ pub fn both(a: Clipped, b: Clipped) -> Clipped
 
 // The counts of words that each hold how many were below 0, and 256 times how many were above the largest.
 pub fn counted(words: &[u16]) -> Clipped
-    requires { (length words.now ≤ 512) × ((j : ℕ) → j < length words.now → (at words.now j % 256 ≤ 6) × (at words.now j / 256 ≤ 6)) }
-    ensures { result ≡ record { below = total (λ j. at words.now j % 256) (length words.now); above = total (λ j. at words.now j / 256) (length words.now) } }
+    requires { (length words.now ≤ 512) × words_few words.now }
+    ensures { result ≡ words_counted words.now }
 {
     let mut below: u16 = 0;
     let mut above: u16 = 0;
@@ -314,19 +300,12 @@ pub fn column16(near: u16, far: u16) -> u32
     3 * (near as u32) + (far as u32)
 }
 
-// Chroma at the left and at the right pixel of a pair, from its two columns in quarters.
-pub fn left16(a: u32, b: u32, half: u32) -> u16
-    requires { (a ≤ 262140) × (b ≤ 262140) × (half ≡ 8) }
-    ensures { result ≡ rounded (3 * a + b) }
+// Chroma at a pixel of a pair, from its own column and the pair's other one, in quarters.
+pub fn chroma16(own: u32, other: u32, half: u32) -> u16
+    requires { (own ≤ 262140) × (other ≤ 262140) × (half ≡ 8) }
+    ensures { result ≡ rounded (3 * own + other) }
 {
-    ((3 * a + b + half) / 16 % 65536) as u16
-}
-
-pub fn right16(a: u32, b: u32, half: u32) -> u16
-    requires { (a ≤ 262140) × (b ≤ 262140) × (half ≡ 8) }
-    ensures { result ≡ rounded (a + 3 * b) }
-{
-    ((a + 3 * b + half) / 16 % 65536) as u16
+    ((3 * own + other + half) / 16 % 65536) as u16
 }
 
 // ---- groups of pairs
@@ -342,24 +321,24 @@ pub struct Span {
 // only; the first group, which has nothing to reach back over, leaves the rest to the second.
 pub fn next_span(done: usize, pairs: usize) -> Span
     requires { (done < pairs) × (8 ≤ pairs) × (done < 8 → done ≡ 0) }
-    ensures { (result.from ≤ done) × (done < result.from + 8 * result.eights) × (result.from + 8 * result.eights ≤ pairs) × (result.eights ≤ 32) }
+    ensures { Next done pairs result.from result.eights }
 {
     let left = pairs - done;
-    let n = if left < 256 { left } else { 256 };
+    let n = left.min(256);
     if done == 0 {
         return Span {
             from: 0,
             eights: n / 8,
         };
     }
-    let eights = (n + 7) / 8;
+    let eights = n.div_ceil(8);
     Span {
         from: done + n - 8 * eights,
         eights,
     }
 }
 
-// How many pairs of a row go through its groups: all, but for the tail of an even width where it would need a group to itself.
+// How many pairs of a row go through its groups: all, except the tail of an even width where it would need a group to itself.
 pub fn grouped(width: usize) -> usize
     requires { (1 ≤ width) × (width ≤ 16384) }
     ensures { (chroma_width width - 1 ≤ result) × (2 * result ≤ width) }
@@ -375,5 +354,5 @@ pub fn reach(end: usize, samples: usize) -> usize
     requires { end ≤ samples }
     ensures { Reach end samples result }
 {
-    if end < samples { end + 1 } else { end }
+    samples.min(end.saturating_add(1))
 }

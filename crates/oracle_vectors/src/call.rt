@@ -21,10 +21,9 @@ impl Columns<'_> {
     {
         let (column, rest) = self.rest.split_once(' ').unwrap_or((self.rest, ""));
         self.rest = rest;
-        match column.parse::<T>() {
-            Ok(number) => Ok(number),
-            Err(_) => Err(Error::from(ErrorKind::InvalidData)),
-        }
+        column
+            .parse::<T>()
+            .map_err(|_| Error::from(ErrorKind::InvalidData))
     }
 
     // The next column, the bits of a weight.
@@ -61,15 +60,15 @@ impl Columns<'_> {
             y: self.next()?,
             u: self.next()?,
             v: self.next()?,
-            rgb: self.next()?,
         })
     }
 
     fn levels(&mut self) -> io::Result<Levels> {
-        Ok(Levels {
-            top: self.next()?,
-            ends: self.next::<u32>()? != 0,
-        })
+        let top = self.next()?;
+        match self.next::<u32>()? {
+            0 => Ok(Levels::UpTo(top)),
+            _ => Ok(Levels::Ends(top)),
+        }
     }
 
     fn report(&mut self) -> io::Result<Report> {
@@ -99,13 +98,19 @@ impl Columns<'_> {
     }
 }
 
-// How many elements the four buffers have.
+// How many elements the three planes have, whose strides are in C's record.
 #[derive(Clone, Copy)]
 pub struct Lengths {
     pub y: usize,
     pub u: usize,
     pub v: usize,
-    pub rgb: usize,
+}
+
+// The destination.
+#[derive(Clone, Copy)]
+pub struct Destination {
+    pub stride: u32,
+    pub length: usize,
 }
 
 // What is converted, how the buffers are filled before, and the answer: the report, the sum over the destination, and the settings used.
@@ -113,8 +118,8 @@ pub struct Lengths {
 pub struct Call {
     pub codes: Codes,
     pub image: Geometry,
-    pub rgb_stride: u32,
     pub lengths: Lengths,
+    pub rgb: Destination,
     pub seed: Sequence,
     pub levels: Levels,
     pub report: Report,
@@ -125,11 +130,16 @@ pub struct Call {
 impl Call {
     pub fn parse(line: &str) -> io::Result<Call> {
         let mut columns = Columns { rest: line };
+        let codes = columns.codes()?;
+        let image = columns.image()?;
+        let stride = columns.next()?;
+        let lengths = columns.lengths()?;
+        let length = columns.next()?;
         Ok(Call {
-            codes: columns.codes()?,
-            image: columns.image()?,
-            rgb_stride: columns.next()?,
-            lengths: columns.lengths()?,
+            codes,
+            image,
+            lengths,
+            rgb: Destination { stride, length },
             seed: Sequence {
                 last: columns.next()?,
             },

@@ -28,7 +28,7 @@ impl<S: Sample> Buffers<S> {
         let mut y = vec![in alloc; zero; lengths.y]?;
         let mut u = vec![in alloc; zero; lengths.u]?;
         let mut v = vec![in alloc; zero; lengths.v]?;
-        let mut rgb = vec![in alloc; zero; lengths.rgb]?;
+        let mut rgb = vec![in alloc; zero; call.rgb.length]?;
         let mut sequence = call.seed;
         sequence.fill(&mut y, call.levels);
         sequence.fill(&mut u, call.levels);
@@ -41,16 +41,20 @@ impl<S: Sample> Buffers<S> {
 // Whether the conversion of a call has its answer.
 fn is_whole_same<S: Element>(call: &Call, b: &mut Buffers<S>) -> bool {
     let image = YuvPlanarImage::with_planes(call.image, &b.y, &b.u, &b.v);
-    let answer = yuv_to_rgbx_bilinear(&image, call.codes, &mut b.rgb, call.rgb_stride);
+    let answer = yuv_to_rgbx_bilinear(&image, call.codes, &mut b.rgb, call.rgb.stride);
     report_of(answer) == call.report && sum(&b.rgb) == call.sum
 }
 
-// The sides of U and V, and the stride of the plane that they are woven into.
+// The sides of U and V, and the stride of the plane that they are woven into. The sampling is decoded by the total decoder, since calls come
+// here that are refused.
 fn chroma_of(call: &Call) -> (Size, u32) {
     let sampling = yuv_support::sampling_of(call.codes.sampling);
-    let width = images::chroma_width(call.image.width);
-    let height = images::chroma_height(sampling, call.image.height);
-    (Size { width, height }, width.wrapping_mul(2))
+    let luma = Size {
+        width: call.image.width,
+        height: call.image.height,
+    };
+    let chroma = images::chroma_size(sampling, luma);
+    (chroma, chroma.width.wrapping_mul(2))
 }
 
 fn weave_chroma<S: Sample>(call: &Call, b: &Buffers<S>, uv: &mut [S]) -> Result<(), YuvError> {
@@ -102,7 +106,7 @@ fn in_bands<S: Element>(
     let mut rows = 0u32;
     let mut clipped = Clipped { below: 0, above: 0 };
     for _ in 0..call.image.height / 2 + 2 {
-        let band = yuv_to_rgbx_band(image, call.codes, rgb, call.rgb_stride, rows, call.limit())?;
+        let band = yuv_to_rgbx_band(image, call.codes, rgb, call.rgb.stride, rows, call.limit())?;
         rows = rows.wrapping_add(band.rows);
         clipped.below = clipped.below.wrapping_add(band.clipped.below);
         clipped.above = clipped.above.wrapping_add(band.clipped.above);
@@ -118,7 +122,7 @@ fn are_bands_same<S: Element>(call: &Call, b: &mut Buffers<S>) -> bool {
         &image,
         call.codes,
         &mut b.rgb,
-        call.rgb_stride,
+        call.rgb.stride,
         1,
         call.limit(),
     );

@@ -21,26 +21,23 @@ impl Sequence {
     }
 }
 
-// The samples that a buffer is filled with: from 0 to `top`, or one of the two ends.
+// The samples that a buffer is filled with.
 #[derive(Clone, Copy)]
-pub struct Levels {
-    pub top: u16,
-    pub ends: bool,
+pub enum Levels {
+    // From 0 to the largest.
+    UpTo(u16),
+    // 0 and the largest alone.
+    Ends(u16),
 }
 
 impl Levels {
     // All numbers of an element.
-    pub const ALL: Levels = Levels {
-        top: 65535,
-        ends: false,
-    };
+    pub const ALL: Levels = Levels::UpTo(65535);
 
     fn level(self, number: u64) -> u64 {
-        let level = number / 32768 % (u64::from(self.top) + 1);
-        match (self.ends, level % 2) {
-            (false, _) => level,
-            (true, 0) => 0,
-            (true, _) => u64::from(self.top),
+        match self {
+            Levels::UpTo(top) => number / 32768 % (u64::from(top) + 1),
+            Levels::Ends(top) => number / 32768 % (u64::from(top) + 1) % 2 * u64::from(top),
         }
     }
 }

@@ -15,8 +15,8 @@ fn read_row<S: Sample>(row: &mut [S], bytes: &[u8])
     ensures { S.numbers row.new
         ≡ row_of (λ r x. sample_at S.SIZE bytes.now (S.SIZE * x)) 0 (S.numbers row.old) }
 {
-    for i in 0..row.len() {
-        row[i] = S::from_bytes(bytes, S::SIZE * i);
+    for (i, sample) in row.iter_mut().enumerate() {
+        *sample = S::from_bytes(bytes, S::SIZE * i);
     }
 }
 
@@ -25,12 +25,14 @@ fn write_row<S: Sample>(out: &mut [u8], row: &[S])
     requires { length out.old ≡ S.SIZE * length row.now }
     ensures { out.new ≡ row_bytes S.SIZE (S.numbers row.now) }
 {
-    for i in 0..row.len() {
-        row[i].put_bytes(out, S::SIZE * i);
+    for (i, sample) in row.iter().enumerate() {
+        sample.put_bytes(out, S::SIZE * i);
     }
 }
 
 // A plane, from the bytes at a place of a stream. All else in the plane is kept.
+// The place goes beside the stream, as the definitions of a frame's places have it: slices of the
+// rest would need a law of each place in a slice.
 pub fn read_plane<S: Sample>(plane: PlaneMut<'_, S>, s: &[u8], at: usize, size: Size)
     requires wide { size.width ≤ plane.stride }
     requires long { needed plane.stride size.width size.height ≤ length plane.elements.now }
@@ -40,6 +42,8 @@ pub fn read_plane<S: Sample>(plane: PlaneMut<'_, S>, s: &[u8], at: usize, size: 
         plane.entry.stride
         (S.numbers plane.entry.elements.now) }
 {
+    // Taken apart, and the rows cut here: a method that lends a row gets no proof of what the plane
+    // is at the end.
     let PlaneMut { elements, stride } = plane;
     let columns = size.width as usize;
     let n = S::SIZE * columns;
@@ -51,6 +55,8 @@ pub fn read_plane<S: Sample>(plane: PlaneMut<'_, S>, s: &[u8], at: usize, size: 
 }
 
 // The bytes of a plane, from a place of the output on; the answer is the place after them.
+// The place goes beside the output, since `Wrote` says at once what was written and that all else
+// is kept: slices of the rest would need that said again for each plane.
 pub fn write_plane<S: Sample>(out: &mut [u8], at: usize, plane: Plane<'_, S>, size: Size) -> usize
     requires wide { size.width ≤ plane.stride }
     requires long { needed plane.stride size.width size.height ≤ length plane.elements.now }

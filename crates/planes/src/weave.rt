@@ -18,7 +18,8 @@ fn weave_row<S: Sample>(row: &mut [S], u: &[S], v: &[S])
     ensures { let pairs = alternating (at (S.numbers u.now)) (at (S.numbers v.now)) in
         S.numbers row.new ≡ row_of (λ r. pairs) 0 (S.numbers row.old) }
 {
-    // By index: a turn reads or writes two places, and adapters after iter_mut say nothing of what was written.
+    // By index: a turn writes two places. A loop over chunks_exact_mut does not say what it wrote,
+    // and one over the samples takes 2.5 times as long.
     for i in 0..u.len() {
         row[2 * i] = u[i];
         row[2 * i + 1] = v[i];
@@ -30,10 +31,13 @@ fn unweave_row<S: Sample>(u: &mut [S], v: &mut [S], row: &[S], zero: u32)
     requires both { length row.now ≡ 2 * length u.old }
     requires same { length v.old ≡ length u.old }
     requires is_zero { zero ≡ 0 }
-    ensures u_row { S.numbers u.new ≡ row_of (λ r x. at (S.numbers row.now) (2 * x + of_u)) 0 (S.numbers u.old) }
-    ensures v_row { S.numbers v.new ≡ row_of (λ r x. at (S.numbers row.now) (2 * x + of_v)) 0 (S.numbers v.old) }
+    ensures u_row { S.numbers u.new
+        ≡ row_of (λ r x. at (S.numbers row.now) (2 * x + of_u)) 0 (S.numbers u.old) }
+    ensures v_row { S.numbers v.new
+        ≡ row_of (λ r x. at (S.numbers row.now) (2 * x + of_v)) 0 (S.numbers v.old) }
 {
-    // By index: a turn reads or writes two places, and adapters after iter_mut say nothing of what was written.
+    // By index: a turn writes into two rows. A loop over their zip does not say what it wrote, and
+    // a loop for each takes 1.19 times as long at u16.
     for i in 0..u.len() {
         let pair = S::two(row, 2 * i, zero);
         u[i] = pair.first;
@@ -51,6 +55,8 @@ pub fn weave_plane<S: Sample>(uv: PlaneMut<'_, S>, u: Plane<'_, S>, v: Plane<'_,
         (plane_of S.numbers v.entry)
         (plane_mut_of S.numbers uv.entry) }
 {
+    // Taken apart, and the rows cut here: a method that lends a row gets no proof of what the plane
+    // is at the end.
     let PlaneMut { elements, stride } = uv;
     let n = 2 * size.width as usize;
     for r in 0..size.height {
@@ -91,6 +97,8 @@ pub fn unweave_plane<S: Sample>(
         (plane_of S.numbers uv.entry)
         (plane_mut_of S.numbers v.entry) }
 {
+    // Taken apart, and the rows cut here: a method that lends a row gets no proof of what the plane
+    // is at the end.
     let PlaneMut {
         elements: us,
         stride: u_stride,

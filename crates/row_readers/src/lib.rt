@@ -1,7 +1,8 @@
 // Two readers over a picture of any element: a finished row as a part of the destination, and a luma row's near chroma row as a part of the
 // U or the V plane. Nothing is asked of the caller. The `_part` functions give the answer as numbers, with the part's start and length, for
 // hosts to whom no reference can be returned.
-// Codes are numbers here: C hands them over, and questions 1 and 2 are asked of them.
+// Codes are numbers here: C hands them over, and questions 1 and 2 are asked of them. A call's parameters are no struct: document 01 fixes the
+// form of both readers, a function of a lent destination or of two lent planes with one lifetime, with codes, sides and row beside.
 #![tactic(auto)]
 
 ghost use Rattle.std.specs.Prelude.{◌≡◌, ◌+◌, ◌≤◌, length, take, drop, IfOk};
@@ -9,10 +10,10 @@ ghost use Rattle.yuv_error.specs.Told.{answered};
 ghost use Rattle.row_readers.specs.Readers.{lent, wanted, row_answer, row_part, row_place, chroma_row_answer, chroma_row_part, chroma_row_place};
 ghost use Rattle.row_readers.specs.Places.{placed_by, finished_place, near_chroma_place};
 
-use images::{check_chroma_row, check_row};
+use images::{ChromaPlane, check_chroma_row, check_row};
 use sample::plane::{Plane, Size};
-use yuv_error::buffers::buffer_of;
-use yuv_error::{Told, YuvError};
+use yuv_error::report::told_of;
+use yuv_error::{Buffer, YuvError};
 
 // The answer as numbers, then where the part starts in its buffer and how many elements it has. On a "no" start and length are 0.
 #[repr(C)]
@@ -41,27 +42,21 @@ impl Place {
     }
 }
 
+// A function and no `From`: an answer is told in several records, and the name says in which.
 fn part_of(place: Result<Place, YuvError>) -> Part
     ensures { result ≡ placed_by place }
 {
-    match place {
-        Ok(p) => Part {
-            number: 0,
-            expected: 0,
-            received: 0,
-            start: p.start as u64,
-            length: p.length as u64,
-        },
-        Err(e) => {
-            let told = Told::from(e);
-            Part {
-                number: told.number,
-                expected: told.expected,
-                received: told.received,
-                start: 0,
-                length: 0,
-            }
-        }
+    let told = told_of(place);
+    let place = place.unwrap_or(Place {
+        start: 0,
+        length: 0,
+    });
+    Part {
+        number: told.number,
+        expected: told.expected,
+        received: told.received,
+        start: place.start as u64,
+        length: place.length as u64,
     }
 }
 
@@ -80,8 +75,8 @@ fn finished_place<T: Copy>(
     ensures place { IfOk result (λ p. p ≡ finished_place order size.width rgb.entry.stride row) }
     ensures fits { IfOk result (λ p. p.start + p.length ≤ length rgb.entry.elements.now) }
 {
-    let lent = buffer_of(rgb.elements, rgb.stride);
-    let letters = check_row(order, size.width, size.height, lent, row)?;
+    let lent = Buffer::from(rgb);
+    let letters = check_row(order, size, lent, row)?;
     let start = rgb.stride as usize * row as usize;
     let length = images::row_length(size.width, letters) as usize;
     Ok(Place { start, length })
@@ -115,10 +110,7 @@ pub fn finished_row_or_empty<'a, T: Copy>(
     ensures { result.now ≡
         row_part order size.width size.height rgb.entry.elements.now rgb.entry.stride row }
 {
-    match finished_row(order, size, rgb, row) {
-        Ok(part) => part,
-        Err(_) => &rgb.elements[..0],
-    }
+    finished_row(order, size, rgb, row).unwrap_or(&rgb.elements[..0])
 }
 
 // The answer as numbers, with the start and the length of the part.
@@ -131,46 +123,45 @@ pub fn finished_row_part<T: Copy>(order: u32, size: Size, rgb: Plane<'_, T>, row
 
 // ---- the near chroma row
 
-// Of two strides, that of the plane wanted.
-fn wanted_stride(plane: u32, u_stride: u32, v_stride: u32) -> u32
-    ensures { result ≡ wanted plane u_stride v_stride }
-{
-    if plane == 0 { u_stride } else { v_stride }
+// A plane of chroma, and where a row lies in it.
+#[derive(Clone, Copy)]
+struct ChromaPlace<'a, T> {
+    plane: Plane<'a, T>,
+    place: Place,
 }
 
-// Where the near chroma row lies in the plane wanted.
-#[tactic(auto, using(crate::proofs::Parts::chroma_row_fits))]
-fn near_chroma_place<T: Copy>(
+// The plane wanted, and where the near chroma row lies in it.
+#[tactic(auto, using(yuv_support::proofs::Rows::row_fits, yuv_support::proofs::Blend::near_row_lt))]
+fn near_chroma_place<'a, T: Copy>(
     sampling: u32,
     plane: u32,
     size: Size,
-    u: Plane<'_, T>,
-    v: Plane<'_, T>,
+    u: Plane<'a, T>,
+    v: Plane<'a, T>,
     row: u32,
-) -> Result<Place, YuvError>
+) -> Result<ChromaPlace<'a, T>, YuvError>
     ensures answer { answered result ≡
         chroma_row_answer sampling plane size.width size.height (lent u.entry) (lent v.entry) row }
-    ensures place { IfOk result (λ p. p ≡
-        near_chroma_place sampling size.width size.height (wanted plane u.entry.stride v.entry.stride) row) }
+    ensures plane { IfOk result (λ p. p.plane.elements.now ≡
+        wanted plane u.entry.elements.now v.entry.elements.now) }
+    ensures place { IfOk result (λ p. p.place ≡
+        near_chroma_place sampling size.width size.height
+        (wanted plane u.entry.stride v.entry.stride) row) }
     ensures fits { IfOk result (λ p.
-        p.start + p.length ≤ length (wanted plane u.entry.elements.now v.entry.elements.now)) }
+        p.place.start + p.place.length ≤ length p.plane.elements.now) }
 {
-    let u_lent = buffer_of(u.elements, u.stride);
-    let v_lent = buffer_of(v.elements, v.stride);
-    let asked = check_chroma_row(
-        sampling,
-        plane,
-        size.width,
-        size.height,
-        u_lent,
-        v_lent,
-        row,
-    )?;
+    let u_lent = Buffer::from(u);
+    let v_lent = Buffer::from(v);
+    let asked = check_chroma_row(sampling, plane, size, u_lent, v_lent, row)?;
     let near = images::near_row(asked.sampling, size.height, row);
-    let stride = wanted_stride(plane, u.stride, v.stride);
-    let start = stride as usize * near as usize;
+    let plane = match asked.plane {
+        ChromaPlane::U => u,
+        ChromaPlane::V => v,
+    };
+    let start = plane.stride as usize * near as usize;
     let length = images::chroma_width(size.width) as usize;
-    Ok(Place { start, length })
+    let place = Place { start, length };
+    Ok(ChromaPlace { plane, place })
 }
 
 // The near chroma row of luma row `row`, chroma width elements, from U for code 0 and from V for code 1. Questions 1, 2 of the code of the
@@ -190,11 +181,8 @@ pub fn near_chroma_row<'a, T: Copy>(
         chroma_row_part sampling plane size.width size.height
         u.entry.elements.now u.entry.stride v.entry.elements.now v.entry.stride row) }
 {
-    let place = near_chroma_place(sampling, plane, size, u, v, row)?;
-    if plane == 0 {
-        return Ok(place.cut(u.elements));
-    }
-    Ok(place.cut(v.elements))
+    let found = near_chroma_place(sampling, plane, size, u, v, row)?;
+    Ok(found.place.cut(found.plane.elements))
 }
 
 // The same part, or an empty one on a "no".
@@ -211,10 +199,7 @@ pub fn near_chroma_row_or_empty<'a, T: Copy>(
         chroma_row_part sampling plane size.width size.height
         u.entry.elements.now u.entry.stride v.entry.elements.now v.entry.stride row }
 {
-    match near_chroma_row(sampling, plane, size, u, v, row) {
-        Ok(part) => part,
-        Err(_) => &u.elements[..0],
-    }
+    near_chroma_row(sampling, plane, size, u, v, row).unwrap_or(&u.elements[..0])
 }
 
 // The answer as numbers, with the start and the length of the part, in the plane wanted.
@@ -230,5 +215,5 @@ pub fn near_chroma_row_part<T: Copy>(
     ensures { result ≡
         chroma_row_place sampling plane size.width size.height (lent u.entry) (lent v.entry) row }
 {
-    part_of(near_chroma_place(sampling, plane, size, u, v, row))
+    part_of(near_chroma_place(sampling, plane, size, u, v, row).map(|found| found.place))
 }

@@ -24,9 +24,6 @@ module _ {X : Type 0} {number : X → ℕ} {numbers : List X → List ℕ} (are 
   pub numbers_drop : (n : ℕ) (xs : List X) → numbers (drop n xs) ≡ drop n (numbers xs)
   numbers_drop n xs = rw (are xs, are (drop n xs)) (sym (drop-map number n xs))
 
-  pub numbers_append : (xs ys : List X) → numbers (xs ++ ys) ≡ numbers xs ++ numbers ys
-  numbers_append xs ys = rw (are xs, are ys, are (xs ++ ys)) (map-append number xs ys)
-
   pub numbers_part : (n m : ℕ) (xs : List X) → numbers (take n (drop m xs)) ≡ take n (drop m (numbers xs))
   numbers_part n m xs = numbers_take n (drop m xs) ∙ rw (numbers_drop m xs)
 

@@ -5,6 +5,8 @@
 ghost use Rattle.std.specs.Prelude.{◌≡◌, ℕ, List, ◌+◌, ◌≤◌, ◌<◌, cond, eqb, length, map, get_or, set};
 ghost use Rattle.std.proofs.lemmas.List.Edits.{sets};
 ghost use Rattle.std.proofs.Common.{refl, sym, rules};
+ghost use Rattle.std.specs.Align.{type_align};
+ghost use Rattle.std.specs.Mem.{type_size};
 ghost use Rattle.std.proofs.lemmas.List.{map-id};
 ghost use Rattle.yuv_support.specs.Settings.{depths8, depths16};
 ghost use Rattle.sample.specs.Bytes.{bytes_of, sample_at};
@@ -55,13 +57,18 @@ pub trait Sample: Copy + Depths {
         requires { place + SIZE ≤ length bytes.now }
         ensures { number result ≡ sample_at SIZE bytes.now place };
 
-    // Its bytes, from a place of the output on.
+    // Its bytes, from a place of the output on: a part would have to be cut for each sample.
     fn put_bytes(self, out: &mut [u8], place: usize)
         requires { place + SIZE ≤ length out.old }
         ensures { out.new ≡ sets out.old place (bytes_of SIZE (number self)) };
 
     // So few that the bytes of a row of 2^32 samples can be counted.
     ghost few_bytes: { SIZE ≤ 8 };
+
+    // So small, and at such places in memory, that an array of some thousand samples can be made, alone and in a struct.
+    ghost small: { type_size Self.row ≤ 2 };
+
+    ghost aligned: { type_align Self.row ≤ 2 };
 
     // The depths go by the number of bytes.
     ghost depths_are: { Self.known ≡ cond (eqb SIZE 1) depths8 depths16 };
@@ -80,6 +87,10 @@ impl Sample for u8 {
     ghost SIZE = { 1 };
 
     ghost few_bytes = { Prim.search rules };
+
+    ghost small = { Prim.search rules };
+
+    ghost aligned = { Prim.search rules };
 
     ghost depths_are = { refl };
 
@@ -124,6 +135,10 @@ impl Sample for u16 {
     ghost SIZE = { 2 };
 
     ghost few_bytes = { Prim.search rules };
+
+    ghost small = { Prim.search rules };
+
+    ghost aligned = { Prim.search rules };
 
     ghost depths_are = { refl };
 
@@ -171,7 +186,7 @@ pub fn read<S: Sample>(row: &[S], place: usize) -> u16
     row[place].to_u16()
 }
 
-// A number put at a place of a row.
+// A number put at a place of a row: one element, so there is no part to lend.
 pub fn write<S: Sample>(row: &mut [S], place: usize, code: u16)
     requires inside { place < length (S.numbers row.old) }
     requires fits { code ≤ S.most }

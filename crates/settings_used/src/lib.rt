@@ -28,7 +28,7 @@ pub struct SettingsUsed {
     pub g2: u32,
 }
 
-// The answer to a "no".
+// The answer to a "no". A function and no `From`: only the `Told` of a refused call becomes such an answer.
 fn refused(told: Told) -> SettingsUsed
     ensures { result ≡ refusal told }
 {
@@ -85,8 +85,5 @@ fn numbers_of(codes: Codes) -> Result<SettingsUsed, YuvError>
 pub fn settings_used(codes: Codes) -> SettingsUsed
     ensures { result ≡ settings_used_of codes }
 {
-    match numbers_of(codes) {
-        Ok(numbers) => numbers,
-        Err(e) => refused(Told::from(e)),
-    }
+    numbers_of(codes).unwrap_or_else(|e| refused(Told::from(e)))
 }

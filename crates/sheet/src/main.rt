@@ -22,14 +22,15 @@ pub fn read_input<R: Read + Drop>(alloc: Global, from: R) -> io::Result<Vec<u8>>
 pub fn write_answer<W: Write>(input: &[u8], to: &mut W) -> io::Result<()>
     ensures { OnOk result (Appends (W.contents to.old) (W.contents to.new) (sheet_of input.now)) }
 {
-    let mut output = [0u8; 131072];
+    let mut output = [0u8; sheet_text::PAGE];
     let count = sheet_text::sheet_text(input, &mut output);
     to.write_all(&output[..count])
 }
 
 // Where it succeeds, what is written is the sheet of what was there to read.
 pub fn answer<R: Read + Drop, W: Write>(alloc: Global, from: R, to: &mut W) -> io::Result<()>
-    ensures { OnOk result (IfSome (R.remaining from) (λ xs. Appends (W.contents to.old) (W.contents to.new) (sheet_of (take 65537 xs)))) }
+    ensures { OnOk result (IfSome (R.remaining from) (λ xs. Appends (W.contents to.old)
+        (W.contents to.new) (sheet_of (take 65537 xs)))) }
 {
     let input = read_input(alloc, from)?;
     write_answer(&input, to)

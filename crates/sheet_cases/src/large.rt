@@ -1,14 +1,9 @@
 // Large sheets of generated samples.
 use crate::named;
+use sample::plane::Size;
 use std::alloc::Global;
 use std::io;
 use std::io::Write;
-
-#[derive(Clone, Copy)]
-pub struct Size {
-    pub width: u32,
-    pub height: u32,
-}
 
 // A sheet whose samples are at most `most`. Its values are the second line, in which the sides stand again.
 #[derive(Clone, Copy)]

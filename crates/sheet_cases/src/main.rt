@@ -19,7 +19,7 @@ const TOO_LONG: usize = 65537;
 
 // A sheet's text, after its name.
 fn show(rt: &impl Print, name: &str, sheet: &[u8]) -> io::Result<()> {
-    let mut output = [0u8; 131072];
+    let mut output = [0u8; sheet_text::PAGE];
     let n = sheet_text::sheet_text(sheet, &mut output);
     print!(rt; "{name}: ")?;
     io::writer(rt).write_all(&output[..n])
@@ -27,7 +27,7 @@ fn show(rt: &impl Print, name: &str, sheet: &[u8]) -> io::Result<()> {
 
 // Of a large sheet the number of bytes is printed, and a sum of them in which their places count.
 fn show_sum(rt: &impl Print, name: &str, sheet: &[u8]) -> io::Result<()> {
-    let mut output = [0u8; 131072];
+    let mut output = [0u8; sheet_text::PAGE];
     let n = sheet_text::sheet_text(sheet, &mut output);
     let sum = output
         .iter()

@@ -1,3 +1,4 @@
+pub mod Optional
 pub mod OneNumber
 pub mod ManyNumbers
 pub mod Lined

@@ -1,7 +1,7 @@
 -- What a caller knows of lines that were read: where they end (`Lined`), and each of their numbers (`number_read`, `lines_most`).
 -- Assumes nothing.
-use mathlib.Core.Path.{◌≡◌, refl, sym, ap, ◌∙◌}
-use mathlib.Core.Bool.{Bool, true, false, cond, and-eq-true_iff}
+use mathlib.Core.Path.{◌≡◌, sym, ap, ◌∙◌}
+use mathlib.Core.Bool.{true, false, and-eq-true_iff}
 use mathlib.Core.List.{List, [], ◌∷◌, ◌++◌}
 use mathlib.Core.Logic.{◌⊎◌, inl, inr}
 use Prim.Native.Nat.{ℕ, zero, suc, ◌+◌, ◌≤◌, ◌<◌}
@@ -13,23 +13,16 @@ use Rattle.yuv_support.proofs.Overlay.{below_or_not}
 use Rattle.sheet_writing.specs.Text.{joined}
 use Rattle.std.specs.Prelude.{Option, Some, None}
 use Rattle.sheet_numbers.specs.Numbers.{number_at, is_number, all_below, begin, ending, is_item, are_lines, numbers_from}
-use Rattle.sheet_numbers.specs.Read.{lines_read, LinesTaken}
+use Rattle.sheet_numbers.specs.Read.{lines_read, LinesTaken, Lined}
+use Rattle.sheet_numbers.proofs.Optional.{some_met, none_unmet}
 use Rattle.sheet_numbers.proofs.OneNumber.{past_within}
 use Rattle.sheet_numbers.proofs.ManyNumbers.{all_below_lem, holding_all, numbers_length, ending_positive}
 
 -- ---- where they end
 
-until : (t : Bool) (a next : ℕ) → cond t (Some a) None ≡ Some next → (t ≡ true) × (next ≡ a)
-until true a next e = (refl, cc)
-until false a next e = let z : ◌≡◌ {A = ℕ} 0 1 = cc in absurd (omega arith)
-
-malformed : (t : Bool) (a : ℕ) → cond t (Some a) None ≡ None → t ≡ false
-malformed true a e = let z : ◌≡◌ {A = ℕ} 0 1 = cc in absurd (omega arith)
-malformed false a e = refl
-
 pub lines_malformed : (s : List ℕ) (at width limit n : ℕ) {result : Option ℕ} → result ≡ lines_read s at width limit n → result ≡ None
     → are_lines s at width limit n ≡ false
-lines_malformed s at width limit n e m = malformed (are_lines s at width limit n) (begin s at n) (sym e ∙ m)
+lines_malformed s at width limit n e m = none_unmet (are_lines s at width limit n) (begin s at n) (sym e ∙ m)
 
 -- well-formed lines end inside the list
 lines_within : (s : List ℕ) (at width limit n : ℕ) → at ≤ length s → are_lines s at width limit n ≡ true → begin s at n ≤ length s
@@ -40,17 +33,10 @@ lines_within s at width limit (suc n) h e =
     let q = (and-eq-true_iff (is_number s (begin s at n) (ending width n)) _).0 p.1 in
     past_within s (begin s at n) (ending width n) (ending_positive width n) q.0
 
--- n well-formed numbers from a place on, read into xs; `next` is the place after them
-pub record Lined (s : List ℕ) (at width limit n : ℕ) (xs : List ℕ) (next : ℕ) : Type 0 where
-  pub formed : are_lines s at width limit n ≡ true
-  pub end : next ≡ begin s at n
-  pub within : next ≤ length s
-  pub read : take n xs ≡ numbers_from s at n
-
 pub lined : {s : List ℕ} {at width limit n : ℕ} {old xs : List ℕ} {next : ℕ} {result : Option ℕ} → at ≤ length s → n ≤ length old
     → LinesTaken s at width limit n old xs result → result ≡ Some next → Lined s at width limit n xs next
 lined {s} {at} {width} {limit} {n} {old} {xs} {next} h room t u =
-    let f = until (are_lines s at width limit n) (begin s at n) next (sym t.answer ∙ u) in
+    let f = some_met (are_lines s at width limit n) (begin s at n) next (sym t.answer ∙ u) in
     let l = numbers_length s at n in
     let e : xs ≡ sets old 0 (numbers_from s at n) = t.numbers ∙ rw (holding_all (is_item s at width limit) n f.0) in
     let k : 0 + length (numbers_from s at n) ≤ length old = omega arith in
@@ -60,11 +46,6 @@ lined {s} {at} {width} {limit} {n} {old} {xs} {next} h room t u =
       within = let w = lines_within s at width limit n h f.0 in omega (arith, f.1);
       read = ap (take n) (e ∙ sets-eq (numbers_from s at n) old 0 k) ∙ take_at (numbers_from s at n) _ n l;
     }
-
--- the same with the arguments by their equations
-pub lined_same : {s : List ℕ} {at at' width limit limit' n n' : ℕ} {xs : List ℕ} {next : ℕ} → at ≡ at' → limit ≡ limit' → n ≡ n'
-    → Lined s at width limit n xs next → Lined s at' width limit' n' xs next
-lined_same e₁ e₂ e₃ l = rw (← e₁, ← e₂, ← e₃) l
 
 -- ---- their numbers
 

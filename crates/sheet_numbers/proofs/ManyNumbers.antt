@@ -10,13 +10,15 @@ use native.Mathlib.Omega.{arith}
 use borrow.Author.Tests.{le-leb, lt-leb}
 use Rattle.std.specs.Prelude.{Option, Some, None}
 use lib.Dec.{eqb, lit<}
-use lib.ListN.{length, length-append, set, length-set}
+use lib.ListN.{length, length-append, set, length-set, take, drop}
+use Rattle.std.proofs.lemmas.List.{set-append_left, take-append-drop, length-take-le}
 use lib.Seq.{sets}
 use Rattle.yuv_support.proofs.Overlay.{below_or_not}
 use Rattle.sheet_numbers.specs.declared.Number.{Number}
 use Rattle.sheet_writing.specs.Text.{joined}
 use Rattle.sheet_numbers.specs.Numbers.{number_at, past, is_number, all_below, begin, ending, is_item, are_lines, numbers_from}
 use Rattle.sheet_numbers.specs.Read.{number_read, holding, LinesTaken}
+use Rattle.sheet_numbers.proofs.Optional.{some_met, none_unmet}
 use Rattle.sheet_numbers.proofs.OneNumber.{past_within}
 use Rattle.sheet_writing.proofs.Write.{sets_append, joined_one}
 
@@ -63,14 +65,6 @@ holding_first p (suc n) {i} h a e = rw (not_all p (suc n) h e) (go (λ l. holdin
 
 -- ---- what reading one number answers
 
-found : (t : Bool) (m n : Number) → cond t (Some m) None ≡ Some n → (t ≡ true) × (n ≡ m)
-found true m n e = (refl, cc)
-found false m n e = let z : ◌≡◌ {A = ℕ} 0 1 = cc in absurd (omega arith)
-
-missed : (t : Bool) (m : Number) → cond t (Some m) None ≡ None → t ≡ false
-missed true m e = let z : ◌≡◌ {A = ℕ} 0 1 = cc in absurd (omega arith)
-missed false m e = refl
-
 pub ending_positive : (width i : ℕ) → 0 < ending width i
 ending_positive width i = go (eqb ((i + 1) % width) 0)
   where
@@ -96,9 +90,6 @@ pub record Reading (s : List ℕ) (at width limit n : ℕ) (numbers₀ numbers :
   pub within : place ≤ length s
   pub wrote : numbers ≡ sets numbers₀ 0 (numbers_from s at i)
 
-pub never : true ≡ false → ⊥
-never z = let y : ◌≡◌ {A = ℕ} 0 1 = cc in omega arith
-
 module _ {s : List ℕ} {at width limit n : ℕ} {numbers₀ : List ℕ} where
   pub reading_none : at ≤ length s → Reading s at width limit n numbers₀ numbers₀ at 0
   unfolding begin joined
@@ -119,7 +110,7 @@ module _ {s : List ℕ} {at width limit n : ℕ} {numbers₀ : List ℕ} where
     unfolding begin is_item
     reading_one {number} e small room =
         let value = number.value in
-        let found_number = found (is_number s place end) _ number (sym answer ∙ e) in
+        let found_number = some_met (is_number s place end) _ number (sym answer ∙ e) in
         let v₁ : number.value ≡ number_at s place = ap (λ (m : Number). m.value) found_number.1 in
         let n₁ : number.next ≡ past s place = ap (λ (m : Number). m.next) found_number.1 in
         let e₁ : i + 1 ≡ suc i = omega arith in
@@ -149,14 +140,14 @@ module _ {s : List ℕ} {at width limit n : ℕ} {numbers₀ : List ℕ} where
     unfolding is_item
     reading_missed e =
         let p : begin s at i ≡ place = sym r.begins in
-        let m = missed (is_number s place end) _ (sym answer ∙ e) in
+        let m = none_unmet (is_number s place end) _ (sym answer ∙ e) in
         refused (rw (p, ← ends, m))
 
     pub reading_above : {number : Number} → result ≡ Some number → limit < number.value → LinesTaken s at width limit n numbers₀ numbers None
     unfolding is_item
     reading_above {number} e large =
         let p : begin s at i ≡ place = sym r.begins in
-        let f = found (is_number s place end) _ number (sym answer ∙ e) in
+        let f = some_met (is_number s place end) _ number (sym answer ∙ e) in
         let v : number_at s place ≡ number.value = sym (ap (λ (m : Number). m.value) f.1) in
         refused (rw (p, ← ends, f.0, v, lt-leb number.value limit large))
 
@@ -168,3 +159,31 @@ module _ {s : List ℕ} {at width limit n : ℕ} {numbers₀ : List ℕ} where
         answer = rw (e, r.formed, r.begins);
         numbers = rw (e, holding_all (is_item s at width limit) i r.formed) r.wrote;
       }
+
+-- ---- the loop writes into the first n elements of a room
+
+sets_within : (xs rest values : List ℕ) (i : ℕ) → i + length values ≤ length xs → sets (xs ++ rest) i values ≡ sets xs i values ++ rest
+sets_within xs rest [] i h = refl
+sets_within xs rest (x ∷ values) i h =
+    let l = length-set xs i x in
+    rw (set-append_left xs rest i x (omega arith)) (sets_within (set xs i x) rest values (suc i) (omega arith))
+
+holding_most : (p : ℕ → Bool) (n : ℕ) → holding p n ≤ n
+unfolding holding
+holding_most p zero = omega arith
+holding_most p (suc n) = go (all_below p (suc n)) (holding_most p n)
+  where
+    go : (t : Bool) → holding p n ≤ n → cond t (suc n) (holding p n) ≤ suc n
+    go true h = omega arith
+    go false h = omega arith
+
+pub taken_in : {s : List ℕ} {at width limit n : ℕ} (old : List ℕ) {part : List ℕ} {result : Option ℕ} → n ≤ length old
+    → LinesTaken s at width limit n (take n old) part result → LinesTaken s at width limit n old (part ++ drop n old) result
+taken_in {s} {at} {width} {limit} {n} old {part} {result} h t =
+    let values = numbers_from s at (holding (is_item s at width limit) n) in
+    let l = numbers_length s at (holding (is_item s at width limit) n) in
+    let m = holding_most (is_item s at width limit) n in
+    let k = length-take-le n old h in
+    let e : sets (take n old ++ drop n old) 0 values ≡ sets (take n old) 0 values ++ drop n old =
+    sets_within (take n old) (drop n old) values 0 (omega arith) in
+    record { answer = t.answer; numbers = rw (t.numbers, ← e, take-append-drop n old) refl }

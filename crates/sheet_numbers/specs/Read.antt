@@ -1,6 +1,6 @@
 -- What the reading functions answer, by the definitions of Numbers.
 -- Definitions only.
-use Rattle.std.specs.Prelude.{◌≡◌, ℕ, zero, suc, Bool, cond, List, eqb, length, Option, Some, None}
+use Rattle.std.specs.Prelude.{◌≡◌, ℕ, zero, suc, ◌≤◌, Bool, true, cond, List, eqb, length, take, Option, Some, None}
 use Rattle.std.proofs.lemmas.List.Edits.{sets}
 use Rattle.sheet_numbers.specs.declared.Number.{Number}
 use Rattle.sheet_numbers.specs.Numbers.{byte_at, all_below, is_number, number_at, past, begin, is_item, are_lines, numbers_from}
@@ -29,3 +29,10 @@ holding p (suc n) = cond (all_below p (suc n)) (suc n) (holding p n)
 pub record LinesTaken (s : List ℕ) (at width limit n : ℕ) (old new : List ℕ) (result : Option ℕ) : Type 0 where
   pub answer : result ≡ lines_read s at width limit n
   pub numbers : new ≡ sets old 0 (numbers_from s at (holding (is_item s at width limit) n))
+
+-- n well-formed numbers from a place on, read into xs; `next` is the place after them
+pub record Lined (s : List ℕ) (at width limit n : ℕ) (xs : List ℕ) (next : ℕ) : Type 0 where
+  pub formed : are_lines s at width limit n ≡ true
+  pub end : next ≡ begin s at n
+  pub within : next ≤ length s
+  pub read : take n xs ≡ numbers_from s at n

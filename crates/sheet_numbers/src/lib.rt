@@ -1,7 +1,8 @@
 // The numbers and lines of a sheet's input: read from a list of bytes, place by place.
+// A text and a place in it stay two parameters: the definitions count places from the begin.
 #![tactic(auto)]
 
-ghost use Rattle.std.specs.Prelude.{◌≡◌, ◌≤◌, ◌<◌, length};
+ghost use Rattle.std.specs.Prelude.{◌≡◌, ◌+◌, ◌^◌, ◌≤◌, ◌<◌, length};
 ghost use Rattle.sheet_numbers.specs.Numbers.{byte_at, digits_at, number_at, ending};
 ghost use Rattle.sheet_numbers.specs.Read.{number_read, LinesTaken};
 
@@ -34,6 +35,8 @@ fn read_digits(s: &[u8], at: usize) -> Digits
     ensures most { result.count ≤ 5 }
 {
     let mut digits = Digits { count: 0, value: 0 };
+    // By place, as the definition has it: five bytes are looked at, and past the end a byte is 0.
+    // The count is kept beside the value, of which it is a field: by the place it would be no plainer.
     for place in at..at + 5 {
         let byte = byte_at(s, place);
         if !byte.is_ascii_digit() {
@@ -66,7 +69,7 @@ fn read_number(s: &[u8], at: usize, end: u8) -> Option<Number>
 
 // What ends number i, in lines of `width` numbers.
 fn ending_of(width: usize, i: usize) -> u8
-    requires { (0 < width) × (i < 4096) }
+    requires { (0 < width) × (i + 1 < 2 ^ 64) }
     ensures { result ≡ ending width i }
 {
     if (i + 1) % width == 0 {
@@ -75,25 +78,29 @@ fn ending_of(width: usize, i: usize) -> u8
     b' '
 }
 
-// n numbers in lines of `width`, none above `limit`; the answer is the place after them, where they are well formed.
-pub fn read_lines(
-    s: &[u8],
-    at: usize,
-    width: usize,
-    limit: u32,
-    n: usize,
-    numbers: &mut [u32],
-) -> Option<usize>
-    requires { (at ≤ length s.now) × (0 < width) × (n ≤ 4096) × (n ≤ length numbers.old) }
-    ensures { LinesTaken s.now at width limit n numbers.old numbers.new result }
+// Lines of numbers: how many numbers they are, how many stand in a line, and the largest that each may be.
+#[derive(Clone, Copy)]
+pub struct Lines {
+    pub count: usize,
+    pub width: usize,
+    pub limit: u32,
+}
+
+// The numbers of well-formed lines; the answer is the place after them.
+pub fn read_lines(s: &[u8], at: usize, lines: Lines, numbers: &mut [u32]) -> Option<usize>
+    requires place { at ≤ length s.now }
+    requires width { 0 < lines.width }
+    requires room { lines.count ≤ length numbers.old }
+    ensures { LinesTaken s.now at lines.width lines.limit lines.count numbers.old numbers.new
+        result }
 {
     let mut place = at;
-    for i in 0..n {
-        let number = read_number(s, place, ending_of(width, i))?;
-        if limit < number.value {
+    for (i, slot) in numbers[..lines.count].iter_mut().enumerate() {
+        let number = read_number(s, place, ending_of(lines.width, i))?;
+        if lines.limit < number.value {
             return None;
         }
-        numbers[i] = number.value;
+        *slot = number.value;
         place = number.next;
     }
     Some(place)

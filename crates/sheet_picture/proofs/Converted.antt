@@ -4,19 +4,18 @@
 use mathlib.Core.Path.{◌≡◌, refl, sym, ap, ◌∙◌}
 use mathlib.Core.Bool.{true}
 use mathlib.Core.List.{List, ◌++◌}
-use Prim.Native.Nat.{ℕ, zero, suc, ◌+◌, ◌-◌, ◌*◌, ◌≤◌, ◌<◌}
+use Prim.Native.Nat.{ℕ, zero, suc, ◌+◌, ◌-◌, ◌*◌, ◌≤◌}
 use native.Mathlib.Nat.{mul-le-mul, mul-suc, le_refl}
 use native.Mathlib.Omega.{arith}
-use borrow.Author.Tests.{le-leb, eq-eqb, ne_eqb}
-use lib.Dec.{T}
-use lib.ListN.{length, take, get_or}
+use borrow.Author.Tests.{le-leb, eq-eqb}
+use lib.ListN.{length, take}
 use lib.Seq.{length-take-le}
 use Rattle.yuv_support.specs.declared.YuvSourceChannels.{YuvSourceChannels}
 use Rattle.yuv_support.specs.declared.CbCrInverseTransform.{CbCrInverseTransform}
 use Rattle.yuv_support.specs.declared.Clipped.{Clipped}
 use Rattle.yuv_support.specs.declared.Codes.{Codes}
 use Rattle.yuv_support.specs.declared.Geometry.{Geometry}
-use Rattle.yuv_support.specs.Settings.{sampling_of, order_of, matrix_of, last_packing, among, depths, depths8, depths16}
+use Rattle.yuv_support.specs.Settings.{sampling_of, order_of, matrix_of, last_packing, among}
 use Rattle.yuv_support.specs.Coefficients.{coefficients_of, usable_with, usable}
 use Rattle.yuv_support.specs.Blend.{frame_of, chroma_width, chroma_height}
 use Rattle.yuv_support.specs.Picture.{channels_of, picture, band}
@@ -28,13 +27,12 @@ use Rattle.yuv_support.proofs.Rows.{row_fits}
 use Rattle.yuv_support.proofs.Tests.{passed}
 use Rattle.images.proofs.Rows.{chroma_row_exists}
 use Rattle.sheet_values.specs.declared.Values.{Values}
-use Rattle.sheet_values.specs.Values.{codes_of, image_of, no_weight, luma_count, chroma_count, widest}
-use Rattle.sheet_values.proofs.Sizes.{luma_count_most, chroma_count_most}
+use Rattle.sheet_values.specs.Values.{codes_of, image_of, no_weight, luma_count, chroma_count}
 use Rattle.sheet_table.specs.Table.{heading, clipped_text, table}
 use Rattle.sheet_table.specs.Shown.{stride_of, shown_rows, Shows}
 use Rattle.sheet_table.proofs.Room.{row_room}
 use Rattle.sheet_table.proofs.Shown.{shown_table}
-use Rattle.sheet_picture.specs.Samples.{Fit, Most, Samples, planes_frame}
+use Rattle.sheet_picture.specs.Samples.{Fit, Samples, planes_frame}
 
 -- question 13 asks nothing of a matrix that has a name
 named_usable : (m : ℕ) (t : CbCrInverseTransform) → m ≤ 5 → usable_with (matrix_of m no_weight no_weight) t ≡ true
@@ -113,25 +111,9 @@ module _ {known : List ℕ} {v : Values} (fit : Fit known v) where
         (omega arith) (omega arith) hc
         (row_fits stride stride v.height row (length old) (omega arith) hr))
 
-  luma_most : luma_count v ≤ 4096
-  luma_most = luma_count_most v fit.width fit.height
-
-  chroma_most : chroma_count v ≤ 4096
-  chroma_most = chroma_count_most v fit.width fit.height
-
 -- ---- the planes, of which the first samples are lent
 
 module _ {known : List ℕ} {limit : ℕ} {v : Values} {y u w : List ℕ} (fit : Fit known v) (samples : Samples limit v y u w) where
-  -- each plane's samples are few, and are there
-  pub luma_asks : {n : ℕ} → n ≡ luma_count v → (n ≤ 4096) × Most limit n y
-  luma_asks e = rw e ((luma_most fit, samples.luma))
-
-  pub cb_asks : {m : ℕ} → m ≡ chroma_count v → (m ≤ 4096) × Most limit m u
-  cb_asks e = rw e ((chroma_most fit, samples.cb))
-
-  pub cr_asks : {m : ℕ} → m ≡ chroma_count v → (m ≤ 4096) × Most limit m w
-  cr_asks e = rw e ((chroma_most fit, samples.cr))
-
   ly : length (take (luma_count v) y) ≡ luma_count v
   ly = length-take-le _ y samples.luma.long
 
@@ -159,26 +141,3 @@ module _ {known : List ℕ} {limit : ℕ} {v : Values} {y u w : List ℕ} (fit :
         let counts : clipped ≡ clipped_in s f 0 v.height =
         k ∙ rw (ec, ei, es, eo, ey, eu, ew, en, em) (small_clipped fit _ _ _ old ly lu lw lo) in
         rw eo (shown_table s f new shows counts)
-
--- ---- the two element widths
-
-module _ {v : Values} (f : Fit depths v) where
-  of_depths : {known : List ℕ} → T (among v.depth known) → Fit known v
-  of_depths d = record {
-    sampling = f.sampling;
-    order = f.order;
-    range = f.range;
-    matrix = f.matrix;
-    depth = d;
-    width_least = f.width_least;
-    width = f.width;
-    height_least = f.height_least;
-    height = f.height;
-  }
-
-  module _ {y u w : List ℕ} (samples : Samples (widest v) v y u w) where
-    pub asked_8 : v.depth ≡ 8 → Fit depths8 v × Samples 255 v y u w
-    asked_8 e = (of_depths (rw e tt), rw (eq-eqb v.depth 8 e) at samples)
-
-    pub asked_16 : (v.depth ≡ 8 → ⊥) → Fit depths16 v × Samples 65535 v y u w
-    asked_16 h = let e = ne_eqb v.depth 8 h in (of_depths (rw e at f.depth), rw e at samples)

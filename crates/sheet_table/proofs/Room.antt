@@ -1,6 +1,5 @@
 -- The pixels of a small picture lie in the buffer.
 -- Assumes nothing.
-use mathlib.Core.Path.{◌≡◌}
 use Prim.Native.Nat.{ℕ, suc, ◌+◌, ◌*◌, ◌≤◌, ◌<◌}
 use native.Mathlib.Nat.{mul-le-mul, mul-le-mul_left, mul-suc, mul_comm}
 use native.Mathlib.Omega.{arith}

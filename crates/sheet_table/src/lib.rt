@@ -15,8 +15,11 @@ use yuv_support::{Clipped, YuvSourceChannels};
 
 pub mod shape;
 
-// The output of a sheet: no sheet takes more bytes.
-pub type Page = Text<131072>;
+// The bytes of a page: no sheet takes more.
+pub const PAGE: usize = 131072;
+
+// The output of a sheet.
+pub type Page = Text<PAGE>;
 
 // A pixel with its place.
 #[derive(Clone, Copy)]
@@ -47,9 +50,12 @@ fn pixel_at<S: Sample>(rgb: &[S; 16384], shape: Shape, row: u32, column: u32) ->
     requires column { column < shape.width }
     ensures row { result.row ≡ row }
     ensures column { result.column ≡ column }
-    ensures red { result.red ≡ element_at shape.order shape.width (S.numbers rgb.now) red row column }
-    ensures green { result.green ≡ element_at shape.order shape.width (S.numbers rgb.now) green row column }
-    ensures blue { result.blue ≡ element_at shape.order shape.width (S.numbers rgb.now) blue row column }
+    ensures red { result.red
+        ≡ element_at shape.order shape.width (S.numbers rgb.now) red row column }
+    ensures green { result.green
+        ≡ element_at shape.order shape.width (S.numbers rgb.now) green row column }
+    ensures blue { result.blue
+        ≡ element_at shape.order shape.width (S.numbers rgb.now) blue row column }
 {
     let begin = shape.begin(row, column);
     let red = red_place(shape.order);
@@ -76,7 +82,8 @@ fn push_field(out: &mut Page, n: u32, byte: u8)
 // The line of a pixel.
 fn push_pixel(out: &mut Page, pixel: Pixel)
     requires { length out.old + 30 ≤ 131072 }
-    ensures text { out.new ≡ out.old ++ pixel_text pixel.row pixel.column pixel.red pixel.green pixel.blue }
+    ensures text { out.new
+        ≡ out.old ++ pixel_text pixel.row pixel.column pixel.red pixel.green pixel.blue }
     ensures most { length out.new ≤ length out.old + 30 }
 {
     push_field(out, pixel.row, b' ');
@@ -90,7 +97,8 @@ fn push_pixel(out: &mut Page, pixel: Pixel)
 fn push_row<S: Sample>(out: &mut Page, rgb: &[S; 16384], shape: Shape, row: u32)
     requires room { length out.old + 1920 ≤ 131072 }
     requires row { row < shape.height }
-    ensures text { out.new ≡ out.old ++ shown_row shape.order shape.width (S.numbers rgb.now) row shape.width }
+    ensures text { out.new
+        ≡ out.old ++ shown_row shape.order shape.width (S.numbers rgb.now) row shape.width }
     ensures most { length out.new ≤ length out.old + 1920 }
 {
     for column in 0..shape.width {
@@ -101,7 +109,8 @@ fn push_row<S: Sample>(out: &mut Page, rgb: &[S; 16384], shape: Shape, row: u32)
 // The lines of all rows.
 fn push_rows<S: Sample>(out: &mut Page, rgb: &[S; 16384], shape: Shape)
     requires { length out.old + 122880 ≤ 131072 }
-    ensures text { out.new ≡ out.old ++ shown_rows shape.order shape.width (S.numbers rgb.now) shape.height }
+    ensures text { out.new
+        ≡ out.old ++ shown_rows shape.order shape.width (S.numbers rgb.now) shape.height }
     ensures most { length out.new ≤ length out.old + 122880 }
 {
     for row in 0..shape.height {
@@ -122,7 +131,9 @@ fn push_clipped(out: &mut Page, c: Clipped)
 
 // The table of a picture that stands in a buffer, and of what was clipped in it.
 pub fn table_of<S: Sample>(rgb: &[S; 16384], shape: Shape, clipped: Clipped) -> Page
-    ensures { result ≡ heading ++ shown_rows shape.order shape.width (S.numbers rgb.now) shape.height ++ clipped_text clipped }
+    ensures { result
+        ≡ heading ++ shown_rows shape.order shape.width (S.numbers rgb.now) shape.height
+        ++ clipped_text clipped }
 {
     let mut out: Page = Text::new();
     out.push_bytes(b"row column r g b\n");

@@ -20,7 +20,8 @@ impl Shape {
     pub fn begin(self, row: u32, column: u32) -> usize
         requires row { row < self.height }
         requires column { column < self.width }
-        ensures place { result ≡ self.width * channels_of self.order * row + channels_of self.order * column }
+        ensures place { result
+            ≡ self.width * channels_of self.order * row + channels_of self.order * column }
         ensures room { result + 3 ≤ 16384 }
     {
         let channels = self.order.get_channels_count();

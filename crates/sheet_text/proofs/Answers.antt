@@ -5,28 +5,27 @@ use mathlib.Core.Bool.{Bool, true, false, cond, ◌&&◌, and-eq-true_iff}
 use mathlib.Core.List.{List, [], ◌∷◌}
 use Prim.Native.Nat.{ℕ, ◌≤◌, ◌<◌}
 use native.Mathlib.Omega.{arith}
-use borrow.Author.Tests.{leb-true, le-leb, lt-leb, eqb-true}
+use borrow.Author.Tests.{leb-true, eqb-true}
 use lib.Dec.{T, leb, eqb, lit<}
 use lib.ListN.{length, get_or}
-use lib.Seq.{sets}
 use Rattle.yuv_support.specs.Settings.{last_packing, among, depths}
 use Rattle.yuv_support.specs.Questions.{ask, verdict, decoded, codes_known}
 use Rattle.yuv_support.proofs.Tests.{passed}
-use Rattle.sheet_writing.specs.Text.{Wrote}
 use Rattle.sheet_numbers.specs.Numbers.{byte_at, number_at, begin, are_lines}
 use Rattle.sheet_numbers.proofs.OneNumber.{inside}
 use Rattle.sheet_numbers.proofs.ManyNumbers.{all_below_lem}
-use Rattle.sheet_numbers.proofs.Lined.{Lined, number_read, lines_most}
+use Rattle.sheet_numbers.specs.Read.{Lined}
+use Rattle.sheet_numbers.proofs.Lined.{number_read}
 use Rattle.std.specs.Prelude.{Result, Ok, Err}
 use Rattle.yuv_support.specs.declared.Settings.{Settings}
 use Rattle.sheet_values.specs.declared.Refusal.{Refusal}
 use Rattle.sheet_values.specs.declared.Refusal.TheVariants.{UnknownSampling, UnknownCode, Malformed}
 use Rattle.sheet_values.specs.declared.Values.{Values}
 use Rattle.sheet_values.specs.Known.{number_of, settings_of}
-use Rattle.sheet_values.specs.Values.{codes_of, luma_count, widest, is_small, values_in}
-use Rattle.sheet_values.proofs.Sizes.{small_sides, luma_count_most, chroma_count_most}
+use Rattle.sheet_values.specs.Values.{codes_of, is_small, values_in}
+use Rattle.sheet_values.proofs.Sizes.{small_sides}
 use Rattle.sheet_table.specs.Table.{table}
-use Rattle.sheet_picture.specs.Samples.{Fit, Samples, planes_frame}
+use Rattle.sheet_picture.specs.Samples.{Fit, planes_frame}
 use Rattle.sheet_text.specs.Sheet.{
   names,
   has_name,
@@ -160,6 +159,10 @@ started s {t} e = go (has_names s) (has_values s) refl refl e
         (lines_formed s p q ∙ rw v, sym l)
     go true false p q r = absurd (cc)
     go false b p q r = absurd (cc)
+
+-- what is left after questions 1 and 2
+pub rest_left : (s : List ℕ) {t : Start} {r : Settings} → start_of s ≡ Ok t → settings_of t.values ≡ Ok r → sheet_of s ≡ rest_text s t.values
+rest_left s {t} e k = (started s e).0 ∙ (settings_known s t.values k).2
 
 pub not_started : (s : List ℕ) {why : Refusal} → start_of s ≡ Err why → refusal (number_of why) ≡ sheet_of s
 unfolding has_values

@@ -10,9 +10,9 @@ use Rattle.sheet_values.specs.declared.Values.{Values}
 use Rattle.sheet_values.specs.Values.{codes_of, luma_count, chroma_count}
 use Rattle.sheet_values.specs.Known.{number_of}
 use Rattle.sheet_table.specs.Table.{table}
+use Rattle.sheet_picture.specs.declared.Sheet.{Sheet}
 use Rattle.sheet_picture.specs.Samples.{planes_frame}
 use Rattle.sheet_text.specs.declared.Start.{Start}
-use Rattle.sheet_text.specs.declared.Sheet.{Sheet}
 use Rattle.sheet_text.specs.Sheet.{has_names, has_values, values_of, luma_begin, u_begin, v_begin, rest_formed, sheet_frame, refusal}
 
 -- what the first two lines say, where they are well formed
@@ -42,5 +42,5 @@ values_text s v = cond (leb v.sampling 1) (cond (codes_known (among v.depth dept
 
 -- what is printed of a sheet that was read, and of a refusal
 abbrev pub printed : Result Sheet Refusal → List ℕ
-printed (Ok t) = table (decoded (codes_of t.values)) (planes_frame t.values t.planes.y t.planes.u t.planes.v)
+printed (Ok t) = table (decoded (codes_of t.known.values)) (planes_frame t.known.values t.planes.y t.planes.u t.planes.v)
 printed (Err why) = refusal (number_of why)

@@ -1,19 +1,22 @@
 // The sheet of document 01 as a function from the bytes that are read to the bytes that are written.
+// A text and a place in it stay two parameters: the definitions count places from the begin.
 #![tactic(auto)]
 
-ghost use Rattle.std.specs.Prelude.{◌≡◌, ◌&&◌, ◌≤◌, length, is_some, IfSome, IfOk};
+ghost use Rattle.std.specs.Prelude.{◌≡◌, ◌&&◌, ◌≤◌, ◌<◌, length, is_some, IfSome, IfOk};
 ghost use Rattle.std.proofs.lemmas.List.Edits.{sets};
-ghost use Rattle.yuv_support.specs.Settings.{depths};
+ghost use Rattle.sheet_numbers.specs.Numbers.{are_lines};
+ghost use Rattle.sheet_numbers.specs.Read.{Lined};
 ghost use Rattle.sheet_values.specs.Values.{widest};
 ghost use Rattle.sheet_values.specs.Known.{number_of};
-ghost use Rattle.sheet_picture.specs.Samples.{Fit, Samples};
+ghost use Rattle.sheet_picture.specs.Samples.{Samples};
 ghost use Rattle.sheet_text.specs.Sheet.{has_planes, is_whole, refusal, sheet_of};
 ghost use Rattle.sheet_text.specs.Answer.{PlanesAsk, PlanesRead, start_of, printed};
 
-use sheet_numbers::read_lines;
-use sheet_picture::Planes;
+use sheet_numbers::{Lines, read_lines};
+use sheet_picture::{Planes, Sheet};
+pub use sheet_table::PAGE;
 use sheet_table::Page;
-use sheet_values::{Refusal, Values};
+use sheet_values::{Known, Refusal, Values};
 use sheet_writing::Text;
 
 // The values of the second line, and the place after it.
@@ -23,11 +26,11 @@ struct Start {
     at: usize,
 }
 
-// A sheet whose questions are answered.
+// A plane of a sheet and the place after its lines.
 #[derive(Drop)]
-struct Sheet {
-    values: Values,
-    planes: Planes,
+struct Plane {
+    numbers: [u32; 4096],
+    next: usize,
 }
 
 // Question 15 of the first two lines: the line of names, then seven numbers.
@@ -38,64 +41,75 @@ fn read_values(s: &[u8]) -> Result<Start, Refusal>
     if !s.starts_with(b"depth sampling order range matrix width height\n") {
         return Err(Refusal::Malformed);
     }
+    let line = Lines {
+        count: 7,
+        width: 7,
+        limit: 99999,
+    };
     let mut numbers = [0u32; 7];
-    match read_lines(s, 47, 7, 99999, 7, &mut numbers) {
-        Some(at) => Ok(Start {
-            values: Values::from(numbers),
-            at,
-        }),
-        None => Err(Refusal::Malformed),
-    }
+    let at = read_lines(s, 47, line, &mut numbers).ok_or(Refusal::Malformed)?;
+    Ok(Start {
+        values: Values::from(numbers),
+        at,
+    })
+}
+
+// The numbers of a plane, the first ones of an array, where its lines stand well formed from a place on; and the place after them.
+fn read_plane(s: &[u8], at: usize, lines: Lines) -> Option<Plane>
+    requires place { at ≤ length s.now }
+    requires width { 0 < lines.width }
+    requires room { lines.count ≤ 4096 }
+    ensures answer { is_some result ≡ are_lines s.now at lines.width lines.limit lines.count }
+    ensures lined { IfSome result (λ p. Lined s.now at lines.width lines.limit lines.count p.numbers
+        p.next) }
+{
+    let mut numbers = [0u32; 4096];
+    let next = read_lines(s, at, lines, &mut numbers)?;
+    Some(Plane { numbers, next })
 }
 
 // All rows of Y, U and V, where they stand well formed from a place on, with nothing over.
-fn read_planes(s: &[u8], at: usize, v: Values) -> Option<Planes>
-    requires { PlanesAsk s.now at v }
-    ensures answer { is_some result ≡ (has_planes s.now v && is_whole s.now v) }
-    ensures planes { IfSome result (λ p. PlanesRead s.now v p.y p.u p.v) }
-    ensures samples { IfSome result (λ p. Samples (widest v) v p.y p.u p.v) }
+fn read_planes(s: &[u8], at: usize, known: Known) -> Option<Planes>
+    requires { PlanesAsk s.now at known.values }
+    ensures answer { is_some result
+        ≡ (has_planes s.now known.values && is_whole s.now known.values) }
+    ensures planes { IfSome result (λ p. PlanesRead s.now known.values p.y p.u p.v) }
+    ensures samples { IfSome result (λ p. Samples (widest known.values) known.values p.y p.u p.v) }
 {
-    let mut y = [0u32; 4096];
-    let mut u = [0u32; 4096];
-    let mut w = [0u32; 4096];
-    let limit = v.widest();
-    let m = v.chroma_count();
-    let chroma_width = images::chroma_width(v.width) as usize;
-    let u_at = read_lines(s, at, v.width as usize, limit, v.luma_count(), &mut y)?;
-    let v_at = read_lines(s, u_at, chroma_width, limit, m, &mut u)?;
-    let end = read_lines(s, v_at, chroma_width, limit, m, &mut w)?;
-    if end == s.len() && end <= 65536 {
-        return Some(Planes { y, u, v: w });
+    let values = known.values;
+    let limit = values.widest();
+    let luma = Lines {
+        count: values.luma_count(),
+        width: values.width as usize,
+        limit,
+    };
+    let chroma = Lines {
+        count: known.chroma_count(),
+        width: images::chroma_width(values.width) as usize,
+        limit,
+    };
+    let Plane { numbers: y, next } = read_plane(s, at, luma)?;
+    let Plane { numbers: u, next } = read_plane(s, next, chroma)?;
+    let Plane { numbers: v, next } = read_plane(s, next, chroma)?;
+    if next == s.len() && next <= 65536 {
+        return Some(Planes { y, u, v });
     }
     None
 }
 
 // Question 15 of the first two lines, 1 and 2, and 15 of the rest.
 fn read_sheet(s: &[u8]) -> Result<Sheet, Refusal>
-    ensures text { printed result ≡ sheet_of s.now }
-    ensures fit { IfOk result (λ t. Fit depths t.values) }
-    ensures samples { IfOk result (λ t. Samples (widest t.values) t.values t.planes.y t.planes.u t.planes.v) }
+    ensures { printed result ≡ sheet_of s.now }
 {
     let start = read_values(s)?;
     let values = start.values;
-    values.settings()?;
+    let settings = values.settings()?;
+    let known = Known { values, settings };
     if !values.is_small() {
         return Err(Refusal::Malformed);
     }
-    let Some(planes) = read_planes(s, start.at, values) else {
-        return Err(Refusal::Malformed);
-    };
-    Ok(Sheet { values, planes })
-}
-
-fn number_of(refusal: Refusal) -> u32
-    ensures { result ≡ number_of refusal }
-{
-    match refusal {
-        Refusal::UnknownSampling => 1,
-        Refusal::UnknownCode => 2,
-        Refusal::Malformed => 15,
-    }
+    let planes = read_planes(s, start.at, known).ok_or(Refusal::Malformed)?;
+    Ok(Sheet { known, planes })
 }
 
 // The line of a refusal.
@@ -105,7 +119,7 @@ fn refusal_text(why: Refusal) -> Page
 {
     let mut text: Page = Text::new();
     text.push_bytes(b"refused ");
-    text.push_number(number_of(why));
+    text.push_number(u32::from(why));
     text.push(b'\n');
     text
 }
@@ -115,14 +129,14 @@ fn text_of(s: &[u8]) -> Page
     ensures { result ≡ sheet_of s.now }
 {
     match read_sheet(s) {
-        Ok(sheet) => sheet_picture::table_of(sheet.values, &sheet.planes),
+        Ok(sheet) => sheet_picture::table_of(&sheet),
         Err(why) => refusal_text(why),
     }
 }
 
-// The sheet of an input of any length. What is written stands at the begin of the output, whose other bytes are kept; the answer is how
+// The sheet of an input of any length. A public function that stays as it was, with the output lent and a count as its answer. What is written stands at the begin of the output, whose other bytes are kept; the answer is how
 // many bytes that is. No sheet takes more bytes than the output has.
-pub fn sheet_text(input: &[u8], output: &mut [u8; 131072]) -> usize
+pub fn sheet_text(input: &[u8], output: &mut [u8; PAGE]) -> usize
     ensures length { result ≡ length (sheet_of input.now) }
     ensures text { output.new ≡ sets output.old 0 (sheet_of input.now) }
     ensures fits { result ≤ 131072 }

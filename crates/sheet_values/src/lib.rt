@@ -1,11 +1,13 @@
 // The seven values of a sheet: the codes and the sides that they are, how many samples they ask for, and what questions 1, 2 and 15 ask of them.
 #![tactic(auto)]
 
-ghost use Rattle.std.specs.Prelude.{◌≡◌, ◌≤◌};
+ghost use Rattle.std.specs.Prelude.{◌≡◌};
+ghost use Rattle.yuv_support.specs.Questions.{decoded};
 ghost use Rattle.sheet_values.specs.Values.{codes_of, image_of, luma_count, chroma_count, widest, is_small, values_in};
-ghost use Rattle.sheet_values.specs.Known.{settings_of};
+ghost use Rattle.sheet_values.specs.Known.{number_of, settings_of};
 
 use sample::depths::EitherElement;
+use sample::plane::Size;
 use yuv_error::YuvError;
 use yuv_support::{Codes, Geometry, Settings};
 
@@ -18,6 +20,19 @@ pub enum Refusal {
     UnknownCode,
     // 15: the text, a side or the matrix is not that of a sheet
     Malformed,
+}
+
+// The number of the question.
+impl From<Refusal> for u32 {
+    ghost from_gives = { λ why n. n ≡ number_of why };
+
+    fn from(why: Refusal) -> u32 {
+        match why {
+            Refusal::UnknownSampling => 1,
+            Refusal::UnknownCode => 2,
+            Refusal::Malformed => 15,
+        }
+    }
 }
 
 // The values of a sheet's second line. The codes stand as they are read: questions 1, 2 and 15 say which of them name something.
@@ -88,20 +103,9 @@ impl From<Values> for Geometry {
 impl Values {
     // The samples of luma.
     pub fn luma_count(self) -> usize
-        requires { (self.width ≤ 64) × (self.height ≤ 64) }
         ensures { result ≡ luma_count self }
     {
         self.width as usize * self.height as usize
-    }
-
-    // The samples of one chroma plane.
-    pub fn chroma_count(self) -> usize
-        requires { (self.width ≤ 64) × (self.height ≤ 64) }
-        ensures { result ≡ chroma_count self }
-    {
-        let sampling = yuv_support::sampling_of(self.sampling);
-        let rows = images::chroma_height(sampling, self.height);
-        images::chroma_width(self.width) as usize * rows as usize
     }
 
     // The largest sample of the element's width.
@@ -116,11 +120,10 @@ impl Values {
     pub fn settings(self) -> Result<Settings, Refusal>
         ensures { result ≡ settings_of self }
     {
-        match images::decode::<EitherElement>(Codes::from(self)) {
-            Ok(settings) => Ok(settings),
-            Err(YuvError::UnknownSampling) => Err(Refusal::UnknownSampling),
-            Err(_) => Err(Refusal::UnknownCode),
-        }
+        images::decode::<EitherElement>(Codes::from(self)).map_err(|error| match error {
+            YuvError::UnknownSampling => Refusal::UnknownSampling,
+            _ => Refusal::UnknownCode,
+        })
     }
 
     // Whether sides and matrix are those of a sheet, which question 15 asks.
@@ -128,5 +131,27 @@ impl Values {
         ensures { result ≡ is_small self }
     {
         (1..=64).contains(&self.width) && (1..=64).contains(&self.height) && self.matrix <= 5
+    }
+}
+
+// Values of which questions 1 and 2 are answered, with the settings that their codes stand for.
+#[derive(Clone, Copy, Debug, PartialEq)]
+pub struct Known {
+    pub values: Values,
+    pub settings: Settings,
+    pub ghost answered: { settings ≡ decoded (codes_of values) },
+}
+
+impl Known {
+    // The samples of one chroma plane.
+    pub fn chroma_count(self) -> usize
+        ensures { result ≡ chroma_count self.values }
+    {
+        let luma = Size {
+            width: self.values.width,
+            height: self.values.height,
+        };
+        let chroma = images::chroma_size(self.settings.sampling, luma);
+        chroma.width as usize * chroma.height as usize
     }
 }

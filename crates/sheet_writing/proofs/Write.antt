@@ -4,12 +4,12 @@
 use mathlib.Core.Path.{◌≡◌, refl, sym, ◌∙◌}
 use mathlib.Core.Bool.{Bool, true, false, cond}
 use mathlib.Core.List.{List, [], ◌∷◌, ◌++◌, append_assoc, append-nil}
-use Prim.Native.Nat.{ℕ, zero, suc, ◌+◌, ◌*◌, ◌/◌, ◌%◌, ◌≤◌, ◌<◌}
-use native.Mathlib.Nat.{add-zero, mul-le-mul_left, mul-suc}
+use Prim.Native.Nat.{ℕ, zero, suc, ◌+◌, ◌/◌, ◌%◌, ◌≤◌, ◌<◌}
+use native.Mathlib.Nat.{add-zero}
 use native.Mathlib.Omega.{arith}
 use lib.Dec.{leb}
-use lib.ListN.{length, length-append, set, take, drop, get_or}
-use lib.Seq.{sets, sets-eq, take-suc}
+use lib.ListN.{length, length-append, set, drop}
+use lib.Seq.{sets, sets-eq}
 use Rattle.sheet_writing.specs.Text.{joined, leading_digit, decimal_text, number_text, Wrote}
 
 -- ---- one after the other
@@ -33,16 +33,6 @@ wrote_then {old} {at} {a} {b} {mid} {new} {next} {last} first second = record {
   bytes = second.bytes ∙ rw (first.bytes, first.place) (sets_append old at a b);
 }
 
--- one byte more of a text that is copied
-pub wrote_one : {old : List ℕ} {at : ℕ} (text : List ℕ) {new : List ℕ} {i : ℕ} → Wrote old at (take i text) new (at + i) → i < length text
-    → Wrote old at (take (i + 1) text) (set new (at + i) (get_or text i 0)) (at + (i + 1))
-wrote_one {old} {at} text {new} {i} w h =
-    let n : i + 1 ≡ suc i = omega arith in
-    let last : Wrote new (at + i) (get_or text i 0 ∷ []) (set new (at + i) (get_or text i 0)) (at + (i + 1)) =
-    record { place = omega arith; bytes = refl } in
-    let e : take (i + 1) text ≡ take i text ++ (get_or text i 0 ∷ []) = rw n (take-suc text i 0 h) in
-    rw e (wrote_then w last)
-
 -- ---- lengths
 
 digit_length : (t : Bool) (x : ℕ) → length (cond t (x ∷ []) []) ≤ 1
@@ -64,20 +54,6 @@ pub number_text_length : (n byte : ℕ) → length (number_text n byte) ≤ 6
 unfolding number_text
 number_text_length n byte = simp length-append (omega (arith, decimal_text_length n))
 
--- where a number ends that is written
-pub number_most : (n byte : ℕ) {old new : List ℕ} {at next : ℕ} → Wrote old at (number_text n byte) new next → next ≤ at + 6
-number_most n byte w = omega (arith, w.place, number_text_length n byte)
-
--- n texts of at most k bytes each
-pub joined_length : (f : ℕ → List ℕ) (k n : ℕ) → ((i : ℕ) → length (f i) ≤ k) → length (joined f n) ≤ k * n
-unfolding joined
-joined_length f k zero h = omega arith
-joined_length f k (suc n) h =
-    let i = joined_length f k n h in
-    let a = length-append (joined f n) (f n) in
-    let m = mul-suc k n in
-    omega (arith, h n)
-
 pub joined_one : (f : ℕ → List ℕ) (n : ℕ) → joined f (n + 1) ≡ joined f n ++ f n
 unfolding joined
 joined_one f n = let e : n + 1 ≡ suc n = omega arith in rw e
@@ -96,14 +72,6 @@ appended_none f old = sym (append-nil old)
 pub appended_one : (f : ℕ → List ℕ) (n : ℕ) (old : List ℕ) {mid new : List ℕ} → mid ≡ old ++ joined f n → new ≡ mid ++ f n → new ≡ old ++ joined f (n + 1)
 appended_one f n old {mid} {new} e w = w ∙ rw (e, joined_one f n) (append_assoc old (joined f n) (f n))
 
--- the next text has room where `limit` texts of at most k bytes have
-pub appended_room : (f : ℕ → List ℕ) (k limit : ℕ) (old : List ℕ) {mid : List ℕ} {n : ℕ} → mid ≡ old ++ joined f n → n < limit
-    → ((i : ℕ) → length (f i) ≤ k) → length mid + k ≤ length old + k * limit
-appended_room f k limit old {mid} {n} e h l =
-    let m : k * suc n ≤ k * limit = mul-le-mul_left k h in
-    let a = length-append old (joined f n) in
-    rw e (omega (arith, m, mul-suc k n, joined_length f k n l))
-
 -- ---- what a loop keeps that writes texts: the first n of `limit` texts are written
 
 pub record Joining (f : ℕ → List ℕ) (limit : ℕ) (old : List ℕ) (at : ℕ) (new : List ℕ) (next n : ℕ) : Type 0 where
@@ -121,10 +89,3 @@ module _ {f : ℕ → List ℕ} {limit : ℕ} {old : List ℕ} {at : ℕ} where
 
   pub joining_all : {new : List ℕ} {next n : ℕ} → Joining f limit old at new next n → limit ≤ n → Wrote old at (joined f limit) new next
   joining_all {new} {next} {n} j h = let e : limit ≡ n = omega (arith, j.most) in rw e j.wrote
-
-  -- the next text has room where `limit` texts of at most k bytes have
-  pub joining_room : {new : List ℕ} {next n : ℕ} (k : ℕ) → Joining f limit old at new next n → n < limit → ((i : ℕ) → length (f i) ≤ k)
-      → next + k ≤ at + k * limit
-  joining_room {new} {next} {n} k j h l =
-      let m : k * suc n ≤ k * limit = mul-le-mul_left k h in
-      omega (arith, m, mul-suc k n, joined_length f k n l, j.wrote.place)

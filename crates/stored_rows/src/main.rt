@@ -1,4 +1,4 @@
-// Finds the numbers of the source's stored rows again, now that the coefficients come by formula. Prints a line for each row: depth, range and
+// Looks for each number of the source's stored rows among the coefficients that the formula gives. Prints a line for each row: depth, range and
 // matrix, the five numbers as the source has them, and `found` where `get_built_inverse_transform` gives all five, else `missing`; then how
 // many of the 110 numbers were found and how many are missing.
 #![tactic(auto)]
@@ -84,13 +84,11 @@ fn found(s: StoredRow) -> u64
     ensures { result ≡ found_of s }
 {
     let mode = YuvMode::AsSource;
-    match built_coefficients::get_built_inverse_transform(s.depth, s.range, s.matrix, mode) {
-        Some(row) => agreeing(s.row, row),
-        None => 0,
-    }
+    let row = built_coefficients::get_built_inverse_transform(s.depth, s.range, s.matrix, mode);
+    row.map_or(0, |row| agreeing(s.row, row))
 }
 
-// The range as the line has it.
+// The range as its line is printed. No `Display`: the type is yuv_support's, and so no `impl` may be here.
 fn range_name(range: YuvRange) -> &'static str {
     match range {
         YuvRange::Limited => "limited",
@@ -117,6 +115,7 @@ fn put_lines(rt: &impl Print) -> io::Result<u64>
     ensures { IfOk result (λ n. n ≡ 110) }
 {
     let mut n = 0;
+    // By number: that a line keeps the rule is proved of line k, where k < 22, and an iterator over the rows gives no k.
     for k in 0..ROWS.len() {
         n += put_line(rt, k)?;
     }

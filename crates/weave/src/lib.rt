@@ -14,16 +14,16 @@ ghost use Rattle.weave.specs.Weaving.{plane_usable, weave_questions, weave_answe
 use planes::weave::{unweave_plane, weave_plane};
 use sample::Sample;
 use sample::plane::{Plane, PlaneMut, Size};
-use yuv_error::buffers::{ask, buffer_of, check_rgba_destination, check_sides};
+use yuv_error::buffers::{check_rgba_destination, check_sides};
 use yuv_error::{Buffer, YuvError};
 
-// Question 22 of a plane, n being its row: 5 and 6 asked of it, and answered by one error.
+// Question 22 of a plane, the size being its own: 5 and 6 asked of it, and answered by one error.
 #[tactic(auto, unfolding(yuv_error::specs::Asked::asked))]
-fn check_plane(plane: Buffer, n: u32, height: u32) -> Result<(), YuvError>
-    ensures { result ≡ asked (plane_usable (extent plane.length plane.stride) n height ∷ []) }
+fn check_plane(plane: Buffer, size: Size) -> Result<(), YuvError>
+    ensures { let of_plane = extent plane.length plane.stride in
+        result ≡ asked (plane_usable of_plane size.width size.height ∷ []) }
 {
-    let usable = check_rgba_destination(plane, n, height);
-    ask(usable.is_ok(), YuvError::UnusablePlane)
+    check_rgba_destination(plane, size).map_err(|_| YuvError::UnusablePlane)
 }
 
 // Questions 3 and 4, then 22 of U, V and the woven plane.
@@ -34,10 +34,14 @@ fn check_buffers(size: Size, u: Buffer, v: Buffer, uv: Buffer) -> Result<(), Yuv
         let of_uv = extent uv.length uv.stride in
         result ≡ asked (weave_questions size.width size.height of_u of_v of_uv) }
 {
-    check_sides(size.width, size.height)?;
-    check_plane(u, size.width, size.height)?;
-    check_plane(v, size.width, size.height)?;
-    check_plane(uv, 2 * size.width, size.height)
+    check_sides(size)?;
+    check_plane(u, size)?;
+    check_plane(v, size)?;
+    let woven = Size {
+        width: 2 * size.width,
+        height: size.height,
+    };
+    check_plane(uv, woven)
 }
 
 // The same, by the numbers of the planes' samples.
@@ -53,12 +57,7 @@ fn check_planes<S: Sample>(
     ensures fit { IfOk result (λ _. PlanesFit size.width size.height
         (plane_of S.numbers u.entry) (plane_of S.numbers v.entry) (plane_of S.numbers uv.entry)) }
 {
-    check_buffers(
-        size,
-        buffer_of(u.elements, u.stride),
-        buffer_of(v.elements, v.stride),
-        buffer_of(uv.elements, uv.stride),
-    )
+    check_buffers(size, Buffer::from(u), Buffer::from(v), Buffer::from(uv))
 }
 
 // U and V, woven into `uv`: in each row U and V samples alternating, U first.
@@ -79,6 +78,8 @@ pub fn weave<S: Sample>(
         (plane_of S.numbers v.entry)
         (plane_mut_of S.numbers uv.entry) }
 {
+    // Taken apart to be read: of a plane that is lent or handed on whole, nothing is known of its
+    // elements at the end.
     let PlaneMut { elements, stride } = uv;
     check_planes(size, u, v, Plane { elements, stride })?;
     weave_plane(PlaneMut { elements, stride }, u, v, size);
@@ -108,6 +109,8 @@ pub fn unweave<S: Sample>(
         (plane_mut_of S.numbers v.entry)
         (plane_of S.numbers uv.entry) }
 {
+    // Taken apart to be read: of a plane that is lent or handed on whole, nothing is known of its
+    // elements at the end.
     let PlaneMut {
         elements: us,
         stride: u_stride,

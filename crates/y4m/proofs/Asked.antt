@@ -4,8 +4,10 @@
 use mathlib.Core.Path.{◌≡◌, refl, sym, ap, ◌∙◌}
 use mathlib.Core.List.{List}
 use Prim.Native.Nat.{ℕ}
+use native.Mathlib.Omega.{arith}
 use Rattle.std.specs.Prelude.{Result, Ok, Err}
 use Rattle.yuv_support.specs.declared.Geometry.{Geometry}
+use Rattle.yuv_support.specs.Settings.{sampling_of}
 use Rattle.yuv_support.specs.Questions.{Verdict}
 use Rattle.yuv_error.specs.declared.error.YuvError.{YuvError}
 use Rattle.yuv_error.specs.Told.{answered}
@@ -35,6 +37,15 @@ module _ (r : Result (Unit {0}) YuvError) (n : ℕ) (v : Verdict) (is : answered
       by_answer (Ok u) e = rw (← e) refl
       by_answer (Err f) e = rw (← e, refused_number f) refl
 
+-- what an answer gives that every accepted call gives
+pub given_err : {A : Type 0} (r : Result (Unit {0}) YuvError) (x : A) {e : YuvError} → giving r x ≡ Err e → r ≡ Err e
+given_err (Ok u) x h = let z : ◌≡◌ {A = ℕ} 0 1 = cc in absurd (omega arith)
+given_err (Err f) x {e} h = let same : f ≡ e = cc in ap Err same
+
+pub given_ok : {A : Type 0} (r : Result (Unit {0}) YuvError) {x y : A} → giving r x ≡ Ok y → (r ≡ Ok tt) × (y ≡ x)
+given_ok (Ok u) h = (refl, cc)
+given_ok (Err f) h = let z : ◌≡◌ {A = ℕ} 0 1 = cc in absurd (omega arith)
+
 -- the count of an answer
 pub refused_count : (r : Result (Unit {0}) YuvError) (n : ℕ) {e : YuvError} → r ≡ Err e → Err e ≡ giving r n
 refused_count r n h = rw h refl
@@ -60,7 +71,7 @@ frame_answered known e sampling depth i l out_length n is =
 
 -- a frame whose questions all hold may be written
 pub frame_fits : (known : List ℕ) (e sampling depth : ℕ) (i : Geometry) (l : Lengths) (out_length : ℕ) → known ≡ depths_of e
-    → asked (frame_asked known e sampling depth i l out_length) ≡ Ok tt → OutputFits e sampling i l out_length
+    → asked (frame_asked known e sampling depth i l out_length) ≡ Ok tt → OutputFits e (sampling_of sampling) i l out_length
 frame_fits known e sampling depth i l out_length is all =
     let none : ℕ = 0 in
     let answer = frame_answered known e sampling depth i l out_length none is in

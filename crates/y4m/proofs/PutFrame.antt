@@ -2,13 +2,14 @@
 -- length, and the parts written are the frame's text (`frame_put`). One law for samples of any width.
 -- Assumes nothing.
 use mathlib.Core.Path.{◌≡◌, refl, ap, ◌∙◌}
-use mathlib.Core.List.{List}
+use mathlib.Core.List.{List, map}
 use Prim.Native.Nat.{ℕ, ◌+◌, ◌*◌, ◌≤◌}
 use native.Mathlib.Omega.{arith}
 use lib.ListN.{length}
 use lib.Seq.{sets, length-sets}
+use Rattle.sample.specs.declared.plane.Size.{Size}
 use Rattle.yuv_support.specs.declared.Geometry.{Geometry}
-use Rattle.yuv_support.specs.Settings.{sampling_of}
+use Rattle.yuv_support.specs.declared.YuvChromaSubsampling.{YuvChromaSubsampling}
 use Rattle.yuv_support.specs.Blend.{chroma_width, chroma_height}
 use Rattle.yuv_support.specs.Questions.{needed}
 use Rattle.sheet_writing.specs.Text.{Wrote}
@@ -19,19 +20,34 @@ use Rattle.planes.proofs.StreamPlanes.{plane_bytes_length}
 use Rattle.y4m_frames.specs.Questions.{lengths_of}
 use Rattle.y4m.specs.Writing.{frame_text, frame_length}
 use Rattle.y4m.specs.Inner.{OutputFits}
+use Rattle.y4m.proofs.Samples.{same_lengths}
 use Rattle.y4m.proofs.WrittenBytes.{frame_text_length}
 
 same_length : {old : List ℕ} {at : ℕ} {text new : List ℕ} {next : ℕ} → Wrote old at text new next → length new ≡ length old
 same_length {old} {at} {text} w = ap length w.bytes ∙ length-sets old at text
 
 -- what is known once the line is put, `columns` and `rows` being those of U and V
-pub record Begun (e : ℕ) (sampling : ℕ) (i : Geometry) (y u v out : List ℕ) (columns rows : ℕ) (lined : List ℕ) : Type 0 where
+pub record Begun (e : ℕ) (sampling : YuvChromaSubsampling) (i : Geometry) (y u v out : List ℕ) (columns rows : ℕ) (lined : List ℕ) : Type 0 where
   pub fits : OutputFits e sampling i (lengths_of y u v) (length out)
   pub columns_are : columns ≡ chroma_width i.width
-  pub rows_are : rows ≡ chroma_height (sampling_of sampling) i.height
+  pub rows_are : rows ≡ chroma_height sampling i.height
   pub line : lined ≡ sets out 0 frame_line
 
-module _ {e : ℕ} {sampling : ℕ} {i : Geometry} {y u v out : List ℕ} {columns rows : ℕ} {lined : List ℕ}
+-- of the samples, whose lengths are those of their numbers
+module _ {X : Type 0} {number : X → ℕ} {numbers : List X → List ℕ} (are : (xs : List X) → numbers xs ≡ map number xs) where
+  pub begun : {e : ℕ} {sampling : YuvChromaSubsampling} {i : Geometry} {y u v : List X} {out : List ℕ} {chroma : Size} {lined : List ℕ}
+      → OutputFits e sampling i (lengths_of y u v) (length out)
+      → chroma ≡ record { width = chroma_width i.width; height = chroma_height sampling i.height }
+      → lined ≡ sets out 0 frame_line
+      → Begun e sampling i (numbers y) (numbers u) (numbers v) out chroma.width chroma.height lined
+  begun {y = y} {u = u} {v = v} fits sides line = record {
+    fits = rw (same_lengths are y u v) fits;
+    columns_are = rw sides;
+    rows_are = rw sides;
+    line = line;
+  }
+
+module _ {e : ℕ} {sampling : YuvChromaSubsampling} {i : Geometry} {y u v out : List ℕ} {columns rows : ℕ} {lined : List ℕ}
     (s : Begun e sampling i y u v out columns rows lined) where
   line_wrote : Wrote out 0 frame_line lined 6
   line_wrote = record { place = refl; bytes = s.line }

@@ -18,6 +18,7 @@ use Rattle.yuv_support.proofs.Tests.{passed}
 use Rattle.images.specs.declared.Lengths.{Lengths}
 use Rattle.images.specs.Request.{constraints}
 use Rattle.y4m_text.specs.Write.{frame_line}
+use Rattle.y4m_text.proofs.Codes.{code_back}
 use Rattle.y4m_lines.specs.Lines.{past_line}
 use Rattle.y4m_lines.specs.Header.{is_frame_line}
 use Rattle.y4m_lines.proofs.WrittenHeader.{HeaderFound, frame_line_found}
@@ -59,7 +60,7 @@ module _ (e : ℕ) (some : 0 < e) (sampling depth width height : ℕ) (out : Lis
   same_format place t l = record {
     told_width = rw (h.formed, is_known_lem, h.width_is);
     told_height = rw (h.formed, is_known_lem, h.height_is);
-    told_sampling = rw (h.formed, is_known_lem, h.format_is);
+    told_sampling = rw (h.formed, is_known_lem, h.format_is) (code_back sampling a.sampling_known);
     told_depth = rw (h.formed, is_known_lem, h.format_is);
   }
 
@@ -108,10 +109,10 @@ module _ (e : ℕ) (some : 0 < e) (sampling depth width height : ℕ) (out : Lis
     v_bytes = plane_bytes e c.v_stride columns rows c.v
 
     abbrev text : List ℕ
-    text = frame_text e sampling image c.y c.u c.v
+    text = frame_text e (sampling_of sampling) image c.y c.u c.v
 
     module _ (is : s ≡ before ++ (text ++ after)) (n : ℕ)
-        (f : OutputFits e sampling image (call_lengths e sampling depth width height out c) n)
+        (f : OutputFits e (sampling_of sampling) image (call_lengths e sampling depth width height out c) n)
         (place : ℕ) (at : frame_begin s place ≡ length before) (past : past_line s 0 ≤ length before) where
       -- the stream, parted before each plane
       before_y : s ≡ before ++ frame_line ++ (y_bytes ++ (u_bytes ++ (v_bytes ++ after)))
@@ -125,10 +126,10 @@ module _ (e : ℕ) (some : 0 < e) (sampling depth width height : ℕ) (out : Lis
       before_v = before_u ∙ simp append_assoc
 
       -- the numbers
-      text_length : length text ≡ frame_end e 6 sampling width height
-      text_length = frame_text_length e sampling image c.y c.u c.v n f
+      text_length : length text ≡ frame_end e 6 (sampling_of sampling) width height
+      text_length = frame_text_length e (sampling_of sampling) image c.y c.u c.v n f
 
-      stream_length : length s ≡ length before + (frame_end e 6 sampling width height + length after)
+      stream_length : length s ≡ length before + (frame_end e 6 (sampling_of sampling) width height + length after)
       stream_length = rw is (simp length-append (omega (arith, text_length)))
 
       line_found : (is_frame_line s (length before) ≡ true) × (past_line s (length before) ≡ length before + 6)
@@ -137,7 +138,7 @@ module _ (e : ℕ) (some : 0 < e) (sampling depth width height : ℕ) (out : Lis
       samples_begin_lem : samples_begin s place ≡ length before + 6
       samples_begin_lem = ap (past_line s) at ∙ line_found.1
 
-      past_frame_lem : past_frame e s place ≡ length before + frame_end e 6 sampling width height
+      past_frame_lem : past_frame e s place ≡ length before + frame_end e 6 (sampling_of sampling) width height
       past_frame_lem = rw (samples_begin_lem, h.format_is, h.width_is, h.height_is) (omega arith)
 
       -- the questions
@@ -163,7 +164,7 @@ module _ (e : ℕ) (some : 0 < e) (sampling depth width height : ℕ) (out : Lis
           let l = plane_bytes_length e c.y_stride width height c.y f.y_length in
           omega (arith, y_begin, length-append (before ++ frame_line) y_bytes)
 
-      v_begin_lem : v_begin e (samples_begin s place) sampling width height ≡ length (before ++ frame_line ++ y_bytes ++ u_bytes)
+      v_begin_lem : v_begin e (samples_begin s place) (sampling_of sampling) width height ≡ length (before ++ frame_line ++ y_bytes ++ u_bytes)
       v_begin_lem =
           let l = plane_bytes_length e c.u_stride columns rows c.u f.u_length in
           omega (arith, u_begin_lem, length-append (before ++ frame_line ++ y_bytes) u_bytes)
@@ -202,7 +203,7 @@ module _ (e : ℕ) (some : 0 < e) (sampling depth width height : ℕ) (out : Lis
           v_found =
               rw (read, h.width_is, h.height_is, h.format_is)
               (plane_found e some s columns rows c.v c.v_stride f.v_length
-              (before ++ frame_line ++ y_bytes ++ u_bytes) after before_v (v_begin e (samples_begin s place) sampling width height) v_begin_lem t.v v)
+              (before ++ frame_line ++ y_bytes ++ u_bytes) after before_v (v_begin e (samples_begin s place) (sampling_of sampling) width height) v_begin_lem t.v v)
 
         pub frame_found : FoundAgain e sampling depth width height out s c (length before + length text) place t y u v
         unfolding frame_told

@@ -8,8 +8,10 @@ use native.Mathlib.Omega.{arith}
 use borrow.Author.Tests.{leb-true}
 use lib.Dec.{eqb}
 use lib.ListN.{length}
-use Rattle.std.specs.Prelude.{Some, None, Result, Ok, Err}
-use Rattle.yuv_support.specs.Settings.{sampling_of, depths}
+use Rattle.std.specs.Prelude.{Option, Some, None, Result, Ok, Err, MatchResult}
+use Rattle.std.specs.Option.{option_flatten}
+use Rattle.std.specs.Result.{result_ok}
+use Rattle.yuv_support.specs.Settings.{depths}
 use Rattle.yuv_support.specs.Blend.{chroma_width, chroma_height}
 use Rattle.yuv_support.specs.Questions.{Verdict, accepted, verdict, ask}
 use Rattle.yuv_support.proofs.Questions.{question_at, each_holds}
@@ -28,7 +30,7 @@ use Rattle.y4m_frames.specs.declared.Frame.{Frame}
 use Rattle.y4m_frames.specs.declared.KnownHeader.{KnownHeader}
 use Rattle.y4m_frames.specs.Stream.{depths_of, is_known, ends_at, is_place, samples_begin, past_frame, is_whole}
 use Rattle.y4m_frames.specs.Questions.{lent_image, frame_questions, frame_answer, is_read}
-use Rattle.y4m_frames.specs.Judged.{said_of, header_known, header_said, known_header, frame_in, judged_frame}
+use Rattle.y4m_frames.specs.Judged.{said_of, header_said, known_header, frame_in, judged_frame}
 use Rattle.y4m_frames.proofs.Headers.{HeaderIs, known_met}
 use Rattle.y4m_frames.proofs.Told.{judged_answered}
 use Rattle.y4m.specs.Reading.{header_questions, header_told, told_frame, frame_told, y_after, u_after, v_after}
@@ -44,33 +46,35 @@ module _ (e : ℕ) (s : List ℕ) (place : ℕ) (t : Strides) (l : Lengths) wher
   abbrev met : Bool
   met = is_header s && is_known (depths_of e) s
 
+  -- the answer's frame, step by step as it is taken out
+  pub flattened : {r : Result (Option Frame) YuvError} {o : Option (Option Frame)} {f x : Option Frame} → r ≡ judged_frame e s place t l
+      → o ≡ result_ok r → f ≡ option_flatten o → f ≡ x → option_flatten (result_ok (judged_frame e s place t l)) ≡ x
+  flattened judged ok flat is = rw (ok, judged) at (sym flat ∙ is)
+
   -- ---- where no frame is read
 
   -- at the stream's end
-  end_answer : judged_frame e s place t l ≡ Ok None → (frame_answer e s place t l ≡ accepted) × (is_read e s place t l ≡ false)
+  end_unread : judged_frame e s place t l ≡ Ok None → is_read e s place t l ≡ false
   unfolding judged_frame is_read
-  end_answer is = (a, by_end (ends_at s place) (asked (frame_questions e s place t l)) _ is _ a)
+  end_unread is = by_end (ends_at s place) (asked (frame_questions e s place t l)) _ is
     where
-      a : frame_answer e s place t l ≡ accepted
-      a = sym (judged_answered e s place t l) ∙ ap answered is
-
       by_end : (ends : Bool) (r : Result (Unit {0}) YuvError) (f : Frame) → giving r (cond ends None (Some f)) ≡ Ok None
-          → (v : Verdict) → v ≡ accepted → cond ends false (eqb v.number 0) ≡ false
-      by_end true r f h v a = refl
-      by_end false (Ok u) f h v a = let z : ◌≡◌ {A = ℕ} 0 1 = cc in absurd (omega arith)
-      by_end false (Err x) f h v a = let z : ◌≡◌ {A = ℕ} 0 1 = cc in absurd (omega arith)
+          → cond ends false (eqb (frame_answer e s place t l).number 0) ≡ false
+      by_end true r f h = refl
+      by_end false (Ok u) f h = let z : ◌≡◌ {A = ℕ} 0 1 = cc in absurd (omega arith)
+      by_end false (Err x) f h = let z : ◌≡◌ {A = ℕ} 0 1 = cc in absurd (omega arith)
 
   -- where a question gets a "no"
-  error_answer : {x : YuvError} → judged_frame e s place t l ≡ Err x → (frame_answer e s place t l ≡ told x) × (is_read e s place t l ≡ false)
+  error_unread : {x : YuvError} → judged_frame e s place t l ≡ Err x → is_read e s place t l ≡ false
   unfolding is_read
-  error_answer {x} is = (a, by_end (ends_at s place))
+  error_unread {x} is = by_end (ends_at s place)
     where
-      a : frame_answer e s place t l ≡ told x
-      a = sym (judged_answered e s place t l) ∙ ap answered is
+      refused : frame_answer e s place t l ≡ told x
+      refused = sym (judged_answered e s place t l) ∙ ap answered is
 
       by_end : (ends : Bool) → cond ends false (eqb (frame_answer e s place t l).number 0) ≡ false
       by_end true = refl
-      by_end false = rw (a, refused_number x) refl
+      by_end false = rw (refused, refused_number x) refl
 
   module _ (unread : is_read e s place t l ≡ false) where
     pub y_kept : (y : List ℕ) → y ≡ y_after e s place t l y
@@ -89,23 +93,31 @@ module _ (e : ℕ) (s : List ℕ) (place : ℕ) (t : Strides) (l : Lengths) wher
     unfolding frame_told
     told_without {v} a = rw (unread, a) (framed_said met s v place 0)
 
-  module _ (is : judged_frame e s place t l ≡ Ok None) where
-    pub end_unread : is_read e s place t l ≡ false
-    end_unread = (end_answer is).1
+  -- where the answer holds no frame
+  module _ (none : option_flatten (result_ok (judged_frame e s place t l)) ≡ None) where
+    pub none_unread : is_read e s place t l ≡ false
+    none_unread = by_answer (judged_frame e s place t l) refl none
+      where
+        by_answer : (r : Result (Option Frame) YuvError) → judged_frame e s place t l ≡ r → option_flatten (result_ok r) ≡ None
+            → is_read e s place t l ≡ false
+        by_answer (Ok None) is n = end_unread is
+        by_answer (Ok (Some f)) is n = let z : ◌≡◌ {A = ℕ} 0 1 = cc in absurd (omega arith)
+        by_answer (Err x) is n = error_unread is
 
-    pub told_end : framed (as_told accepted) (header_said (depths_of e) s) place 0 ≡ frame_told e s place t l
-    told_end = told_without end_unread (end_answer is).0
-
-  module _ {x : YuvError} (is : judged_frame e s place t l ≡ Err x) where
-    pub error_unread : is_read e s place t l ≡ false
-    error_unread = (error_answer is).1
-
-    pub told_error : framed (as_told (told x)) (header_said (depths_of e) s) place 0 ≡ frame_told e s place t l
-    told_error = told_without error_unread (error_answer is).0
+    pub told_none : framed (as_told (answered (judged_frame e s place t l))) (header_said (depths_of e) s) place 0 ≡ frame_told e s place t l
+    told_none = told_without none_unread (sym (judged_answered e s place t l))
 
   -- ---- a frame that is read
 
-  module _ {f : Frame} (is : judged_frame e s place t l ≡ Ok (Some f)) where
+  module _ {f : Frame} (some : option_flatten (result_ok (judged_frame e s place t l)) ≡ Some f) where
+    is : judged_frame e s place t l ≡ Ok (Some f)
+    is = by_answer (judged_frame e s place t l) some
+      where
+        by_answer : (r : Result (Option Frame) YuvError) → option_flatten (result_ok r) ≡ Some f → r ≡ Ok (Some f)
+        by_answer (Ok None) h = let z : ◌≡◌ {A = ℕ} 0 1 = cc in absurd (omega arith)
+        by_answer (Ok (Some g)) h = ap Ok h
+        by_answer (Err x) h = let z : ◌≡◌ {A = ℕ} 0 1 = cc in absurd (omega arith)
+
     answer_read : frame_answer e s place t l ≡ accepted
     answer_read = sym (judged_answered e s place t l) ∙ ap answered is
 
@@ -128,13 +140,13 @@ module _ (e : ℕ) (s : List ℕ) (place : ℕ) (t : Strides) (l : Lengths) wher
     -- every question held
     holds : (k : ℕ) → (question_at (ask 16 (is_header s && is_place s place) ∷ ask 17 (is_known (depths_of e) s)
         ∷ ask 18 (is_whole e s place)
-        ∷ constraints (sampling_of (format_in s).sampling) (lent_image (width_of s) (height_of s) t) l) k).holds ≡ true
+        ∷ constraints (format_in s).sampling (lent_image (width_of s) (height_of s) t) l) k).holds ≡ true
     unfolding frame_answer frame_questions
     holds k = each_holds _ refl (ap (λ (v : Verdict). v.number) (rw frame_found.0 at answer_read)) k
 
-    pub told_read : framed (as_told accepted) (header_said (depths_of e) s) f.places.end 1 ≡ frame_told e s place t l
+    pub told_read : framed (as_told (answered (judged_frame e s place t l))) (header_said (depths_of e) s) f.places.end 1 ≡ frame_told e s place t l
     unfolding frame_told
-    told_read = rw (is_read_lem, frame_found.1, answer_read) (framed_said met s accepted (past_frame e s place) 1)
+    told_read = rw (judged_answered e s place t l, is_read_lem, frame_found.1, answer_read) (framed_said met s accepted (past_frame e s place) 1)
 
     pub planes_fit : PlanesFit e s f t l.y l.u l.v
     planes_fit =
@@ -146,18 +158,18 @@ module _ (e : ℕ) (s : List ℕ) (place : ℕ) (t : Strides) (l : Lengths) wher
           v = record { bytes = omega arith; narrow = leb-true _ _ (holds 7); long = leb-true _ _ (holds 8) };
         })
 
-    pub y_read : (y : List ℕ) → plane_read e s f.places.y f.header.width f.header.height t.y y ≡ y_after e s place t l y
+    pub y_read : (y : List ℕ) → plane_read e s f.places.y f.header.size.width f.header.size.height t.y y ≡ y_after e s place t l y
     unfolding y_after
     y_read y = rw (is_read_lem, frame_found.1)
 
     pub u_read : (u : List ℕ)
-        → plane_read e s f.places.u (chroma_width f.header.width) (chroma_height (sampling_of f.header.format.sampling) f.header.height) t.u u
+        → plane_read e s f.places.u (chroma_width f.header.size.width) (chroma_height f.header.format.sampling f.header.size.height) t.u u
         ≡ u_after e s place t l u
     unfolding u_after
     u_read u = rw (is_read_lem, frame_found.1)
 
     pub v_read : (v : List ℕ)
-        → plane_read e s f.places.v (chroma_width f.header.width) (chroma_height (sampling_of f.header.format.sampling) f.header.height) t.v v
+        → plane_read e s f.places.v (chroma_width f.header.size.width) (chroma_height f.header.format.sampling f.header.size.height) t.v v
         ≡ v_after e s place t l v
     unfolding v_after
     v_read v = rw (is_read_lem, frame_found.1)
@@ -169,26 +181,15 @@ module _ (s : List ℕ) where
   unfolding header_told header_questions verdict
   told_malformed f = rw f
 
-  module _ {h : Header} (is : HeaderIs s h) where
-    -- by question 17
-    by_known : (k : Bool) → is_known depths s ≡ k
-        → ((g : KnownHeader) → cond k (Ok (said_of s)) (Err UnknownStream) ≡ Ok g → framed (as_told accepted) (Some g) h.past 0 ≡ header_told s)
-        × ((x : YuvError) → cond k (Ok (said_of s)) (Err UnknownStream) ≡ Err x → framed (as_told (told x)) None 0 0 ≡ header_told s)
+  -- of a header that was read, r being question 17's answer: the place after it is told where it is known
+  module _ {h : Header} (is : HeaderIs s h) (r : Result KnownHeader YuvError) (known : r ≡ known_header depths h) (next : ℕ)
+      (P : KnownHeader → Type 0) (place : MatchResult r P (λ e. next ≡ 0)) (says : (k : KnownHeader) → P k → next ≡ h.past) where
+    pub told_header : framed (as_told (answered r)) (result_ok r) next 0 ≡ header_told s
     unfolding header_told header_questions verdict
-    by_known true k = (
-      λ g e. let g_is : g ≡ said_of s = cc in rw (g_is, is.formed, k, is.past),
-      λ x e. let z : ◌≡◌ {A = ℕ} 0 1 = cc in absurd (omega arith),
-    )
-    by_known false k = (
-      λ g e. let z : ◌≡◌ {A = ℕ} 0 1 = cc in absurd (omega arith),
-      λ x e. let x_is : x ≡ UnknownStream = cc in rw (x_is, is.formed, k),
-    )
-
-    known_is : known_header depths h ≡ header_known depths s
-    known_is = known_met is depths refl
-
-    pub told_known : {g : KnownHeader} → known_header depths h ≡ Ok g → framed (as_told accepted) (Some g) h.past 0 ≡ header_told s
-    told_known {g} e = (by_known (is_known depths s) refl).0 g (sym known_is ∙ e)
-
-    pub told_unknown : {x : YuvError} → known_header depths h ≡ Err x → framed (as_told (told x)) None 0 0 ≡ header_told s
-    told_unknown {x} e = (by_known (is_known depths s) refl).1 x (sym known_is ∙ e)
+    told_header = by_known (is_known depths s) refl r (known ∙ known_met is depths refl) place
+      where
+        by_known : (k : Bool) → is_known depths s ≡ k → (r : Result KnownHeader YuvError) → r ≡ cond k (Ok (said_of s)) (Err UnknownStream)
+            → MatchResult r P (λ e. next ≡ 0)
+            → framed (as_told (answered r)) (result_ok r) next 0 ≡ header_told s
+        by_known true k r e m = let p : next ≡ h.past = says (said_of s) (rw e at m) in rw (e, p, is.formed, k, is.past)
+        by_known false k r e m = let p : next ≡ 0 = rw e at m in rw (e, p, is.formed, k)

@@ -8,7 +8,7 @@ use native.Mathlib.Omega.{arith}
 use borrow.Author.Tests.{ne_eqb}
 use lib.Dec.{T}
 use lib.ListN.{length, length-append}
-use Rattle.yuv_support.specs.Settings.{among}
+use Rattle.yuv_support.specs.Settings.{among, sampling_of}
 use Rattle.y4m_lines.specs.Lines.{past_line}
 use Rattle.y4m_lines.proofs.WrittenHeader.{HeaderFound, header_found}
 use Rattle.y4m_frames.specs.declared.Strides.{Strides}
@@ -86,9 +86,9 @@ module _ (e : ℕ) (sampling depth width height : ℕ) (out : List ℕ) where
         let i = call_image e sampling depth width height out c in
         let l = call_lengths e sampling depth width height out c in
         let s = stream (first ++ c ∷ rest) in
-        let text : part c ≡ frame_text e sampling i c.y c.u c.v = frame_part_is e sampling depth width height out c accepted in
-        let split : s ≡ stream first ++ (frame_text e sampling i c.y c.u c.v ++ parts rest) = rw text at (stream_split first c rest) in
-        let end : length (stream first) + length (frame_text e sampling i c.y c.u c.v) ≡ length (stream (first ++ c ∷ [])) =
+        let text : part c ≡ frame_text e (sampling_of sampling) i c.y c.u c.v = frame_part_is e sampling depth width height out c accepted in
+        let split : s ≡ stream first ++ (frame_text e (sampling_of sampling) i c.y c.u c.v ++ parts rest) = rw text at (stream_split first c rest) in
+        let end : length (stream first) + length (frame_text e (sampling_of sampling) i c.y c.u c.v) ≡ length (stream (first ++ c ∷ [])) =
         rw text at (sym (one_more first c)) in
         rw end at
         (frame_found e some sampling depth width height out s (found (first ++ c ∷ rest)) known header c (stream first) (parts rest) split

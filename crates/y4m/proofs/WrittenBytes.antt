@@ -10,6 +10,7 @@ use lib.Dec.{T}
 use lib.ListN.{length, take, length-append}
 use lib.Seq.{sets, sets-eq, take-append_seam}
 use Rattle.yuv_support.specs.declared.Geometry.{Geometry}
+use Rattle.yuv_support.specs.declared.YuvChromaSubsampling.{YuvChromaSubsampling}
 use Rattle.yuv_support.specs.Settings.{among, sampling_of, depths}
 use Rattle.yuv_support.specs.Blend.{chroma_width, chroma_height}
 use Rattle.yuv_support.specs.Questions.{ask, at_least, sampling_known, sides}
@@ -49,7 +50,7 @@ header_accepted sampling depth width height out_length a =
     }
 
 pub frame_accepted : (e : ℕ) (sampling depth : ℕ) (i : Geometry) (l : Lengths) (out_length : ℕ)
-    → (write_frame_answer e sampling depth i l out_length).number ≡ 0 → OutputFits e sampling i l out_length
+    → (write_frame_answer e sampling depth i l out_length).number ≡ 0 → OutputFits e (sampling_of sampling) i l out_length
 unfolding write_frame_answer
 frame_accepted e sampling depth i l out_length a =
     let h =
@@ -58,7 +59,7 @@ frame_accepted e sampling depth i l out_length a =
     ∷ ask 2 (among depth (depths_of e))
     ∷ (sides i.width i.height
     ++ constraints (sampling_of sampling) i l
-    ++ at_least 5 (frame_length e sampling i) out_length ∷ []))
+    ++ at_least 5 (frame_length e (sampling_of sampling) i) out_length ∷ []))
     refl a in
     record {
       y_stride = leb-true _ _ (h 4);
@@ -83,13 +84,13 @@ unfolding header_part header_written after_header
 header_part_is e sampling depth width height out a =
     rw a (text_kept (header_text sampling depth width height) out (header_accepted sampling depth width height (length out) a).room)
 
-pub frame_text_length : (e : ℕ) (sampling : ℕ) (i : Geometry) (y u v : List ℕ) (out_length : ℕ)
+pub frame_text_length : (e : ℕ) (sampling : YuvChromaSubsampling) (i : Geometry) (y u v : List ℕ) (out_length : ℕ)
     → OutputFits e sampling i (record { y = length y; u = length u; v = length v; rgb = 0 }) out_length
     → length (frame_text e sampling i y u v) ≡ frame_length e sampling i
 unfolding frame_text
 frame_text_length e sampling i y u v out_length a =
     let columns = chroma_width i.width in
-    let rows = chroma_height (sampling_of sampling) i.height in
+    let rows = chroma_height sampling i.height in
     simp length-append
     (omega (
       arith,
@@ -100,10 +101,10 @@ frame_text_length e sampling i y u v out_length a =
 
 pub frame_part_is : (e : ℕ) (sampling depth width height : ℕ) (out : List ℕ) (c : FrameCall)
     → (write_frame_answer e sampling depth (call_image e sampling depth width height out c) (call_lengths e sampling depth width height out c) (length c.out)).number ≡ 0
-    → frame_part e sampling depth width height out c ≡ frame_text e sampling (call_image e sampling depth width height out c) c.y c.u c.v
+    → frame_part e sampling depth width height out c ≡ frame_text e (sampling_of sampling) (call_image e sampling depth width height out c) c.y c.u c.v
 unfolding frame_part frame_written after_frame
 frame_part_is e sampling depth width height out c a =
     let i = call_image e sampling depth width height out c in
     let f = frame_accepted e sampling depth i (call_lengths e sampling depth width height out c) (length c.out) a in
-    let l = frame_text_length e sampling i c.y c.u c.v (length c.out) f in
-    rw (a, ← l) (text_kept (frame_text e sampling i c.y c.u c.v) c.out (omega (arith, f.room)))
+    let l = frame_text_length e (sampling_of sampling) i c.y c.u c.v (length c.out) f in
+    rw (a, ← l) (text_kept (frame_text e (sampling_of sampling) i c.y c.u c.v) c.out (omega (arith, f.room)))

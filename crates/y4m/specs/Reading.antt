@@ -1,10 +1,11 @@
 -- Document 02, slip 2: what reading a header or a frame answers, and what it leaves in the planes.
 -- Definitions only.
 use Rattle.std.specs.Prelude.{ℕ, Bool, cond, ◌&&◌, List, [], ◌∷◌}
-use Rattle.yuv_support.specs.Settings.{sampling_of, depths}
+use Rattle.yuv_support.specs.Settings.{depths}
 use Rattle.yuv_support.specs.Blend.{chroma_width, chroma_height}
 use Rattle.yuv_support.specs.Questions.{Question, Verdict, ask, verdict}
 use Rattle.images.specs.declared.Lengths.{Lengths}
+use Rattle.y4m_text.specs.Write.{code_of}
 use Rattle.y4m_lines.specs.Lines.{past_line}
 use Rattle.y4m_lines.specs.Header.{is_header, width_of, height_of, format_in}
 use Rattle.planes.specs.Stream.{plane_read}
@@ -22,7 +23,7 @@ told_frame answer met s next found = record {
   next = next;
   width = cond met (width_of s) 0;
   height = cond met (height_of s) 0;
-  sampling = cond met (format_in s).sampling 0;
+  sampling = cond met (code_of (format_in s).sampling) 0;
   depth = cond met (format_in s).depth 0;
   found = found;
 }
@@ -55,12 +56,12 @@ unfoldable pub u_after : ℕ → List ℕ → ℕ → Strides → Lengths → Li
 u_after e s place t l u =
     cond (is_read e s place t l)
     (plane_read e s (u_begin e (samples_begin s place) (width_of s) (height_of s))
-    (chroma_width (width_of s)) (chroma_height (sampling_of (format_in s).sampling) (height_of s)) t.u u)
+    (chroma_width (width_of s)) (chroma_height (format_in s).sampling (height_of s)) t.u u)
     u
 
 unfoldable pub v_after : ℕ → List ℕ → ℕ → Strides → Lengths → List ℕ → List ℕ
 v_after e s place t l v =
     cond (is_read e s place t l)
     (plane_read e s (v_begin e (samples_begin s place) (format_in s).sampling (width_of s) (height_of s))
-    (chroma_width (width_of s)) (chroma_height (sampling_of (format_in s).sampling) (height_of s)) t.v v)
+    (chroma_width (width_of s)) (chroma_height (format_in s).sampling (height_of s)) t.v v)
     v

@@ -3,6 +3,7 @@
 use Rattle.std.specs.Prelude.{ℕ, cond, List, [], ◌∷◌, ◌++◌, eqb, length}
 use Rattle.std.proofs.lemmas.List.Edits.{sets}
 use Rattle.yuv_support.specs.declared.Geometry.{Geometry}
+use Rattle.yuv_support.specs.declared.YuvChromaSubsampling.{YuvChromaSubsampling}
 use Rattle.yuv_support.specs.Settings.{among, sampling_of, depths}
 use Rattle.yuv_support.specs.Blend.{chroma_width, chroma_height}
 use Rattle.yuv_support.specs.Questions.{Question, Verdict, ask, at_least, verdict, sampling_known, sides}
@@ -48,17 +49,17 @@ after_header sampling depth width height out =
 -- ---- a frame: 1 to 4, 7 to 12, then 5 of the output's length
 
 -- "FRAME alone on its line, samples as they are": Y, U, V
-unfoldable pub frame_text : ℕ → ℕ → Geometry → List ℕ → List ℕ → List ℕ → List ℕ
+unfoldable pub frame_text : ℕ → YuvChromaSubsampling → Geometry → List ℕ → List ℕ → List ℕ → List ℕ
 frame_text e sampling i y u v =
     let columns = chroma_width i.width in
-    let rows = chroma_height (sampling_of sampling) i.height in
+    let rows = chroma_height sampling i.height in
     frame_line
     ++ plane_bytes e i.y_stride i.width i.height y
     ++ plane_bytes e i.u_stride columns rows u
     ++ plane_bytes e i.v_stride columns rows v
 
 -- how many bytes it has: six of the line, then the samples
-abbrev pub frame_length : ℕ → ℕ → Geometry → ℕ
+abbrev pub frame_length : ℕ → YuvChromaSubsampling → Geometry → ℕ
 frame_length e sampling i = frame_end e 6 sampling i.width i.height
 
 -- `known` being the depths of the samples
@@ -68,15 +69,15 @@ frame_asked known e sampling depth i l out_length =
     ∷ ask 2 (among depth known)
     ∷ (sides i.width i.height
     ++ constraints (sampling_of sampling) i l
-    ++ at_least 5 (frame_length e sampling i) out_length ∷ [])
+    ++ at_least 5 (frame_length e (sampling_of sampling) i) out_length ∷ [])
 
 unfoldable pub write_frame_answer : ℕ → ℕ → ℕ → Geometry → Lengths → ℕ → Verdict
 write_frame_answer e sampling depth i l out_length = verdict (frame_asked (depths_of e) e sampling depth i l out_length)
 
 unfoldable pub frame_written : ℕ → ℕ → ℕ → Geometry → Lengths → ℕ → Written
 frame_written e sampling depth i l out_length =
-    told_written (write_frame_answer e sampling depth i l out_length) (frame_length e sampling i)
+    told_written (write_frame_answer e sampling depth i l out_length) (frame_length e (sampling_of sampling) i)
 
 unfoldable pub after_frame : ℕ → ℕ → ℕ → Geometry → Lengths → List ℕ → List ℕ → List ℕ → List ℕ → List ℕ
 after_frame e sampling depth i l y u v out =
-    output_after (write_frame_answer e sampling depth i l (length out)) (frame_text e sampling i y u v) out
+    output_after (write_frame_answer e sampling depth i l (length out)) (frame_text e (sampling_of sampling) i y u v) out

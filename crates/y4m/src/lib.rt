@@ -1,6 +1,7 @@
-// YUV4MPEG2 streams: the header and the frames read into lent planes, and written, for samples of either width. Nothing is asked of the
-// caller. A call that a question refuses changes no buffer.
-// Sampling and depth are numbers where a stream is written: C hands them over, and questions 1 and 2 are asked of them.
+// YUV4MPEG2 streams: the header and the frames read into lent planes, and written, for samples of
+// either width. Nothing is asked of the caller. A call that a question refuses changes no buffer.
+// Sampling and depth are codes where a stream is written: C hands them over, and questions 1 and 2
+// are asked of them. `check_format`, which each writing call asks first, gives the format.
 #![tactic(auto)]
 
 ghost use Rattle.std.specs.Prelude.{◌≡◌, ◌≤◌, cond, leb, length, IfOk, Ok, Err};
@@ -24,13 +25,14 @@ use sample::Sample;
 use sample::depths::{Depths, EitherElement};
 use sample::plane::{Plane, PlaneMut, Size};
 use y4m_frames::{Frame, KnownHeader, Strides};
-use y4m_lines::Format;
+use y4m_text::{Format, code_of};
 use yuv_error::buffers::{ask, check_output, check_sides};
+use yuv_error::report::told_of;
 use yuv_error::{Told, YuvError};
-use yuv_support::Geometry;
+use yuv_support::{Geometry, YuvChromaSubsampling};
 
-// The answer of a call that reads: number, expected and received; the place to go on at; what the header says; and whether a frame was
-// read, 1 or 0.
+// The answer of a call that reads: number, expected and received; the place to go on at; what the
+// header says; and whether a frame was read, 1 or 0.
 #[repr(C)]
 #[derive(Clone, Copy, Debug, PartialEq, Eq)]
 pub struct Y4mFrame {
@@ -57,38 +59,30 @@ pub struct Written {
 
 // ---- reading
 
-fn accepted() -> Told
-    ensures { result ≡ record { number = 0; expected = 0; received = 0 } }
-{
-    Told {
-        number: 0,
-        expected: 0,
-        received: 0,
-    }
-}
-
 // The numbers of an answer, with what the header says; where it is not known, 0s.
 fn framed(told: Told, header: Option<KnownHeader>, next: u64, found: u32) -> Y4mFrame
     ensures { result ≡ framed told header next found }
 {
-    let h = header.unwrap_or(KnownHeader {
-        width: 0,
-        height: 0,
-        format: Format {
-            sampling: 0,
-            depth: 0,
-        },
-    });
-    Y4mFrame {
+    let unknown = Y4mFrame {
         number: told.number,
         expected: told.expected,
         received: told.received,
         next,
-        width: h.width,
-        height: h.height,
-        sampling: h.format.sampling,
-        depth: h.format.depth,
+        width: 0,
+        height: 0,
+        sampling: 0,
+        depth: 0,
         found,
+    };
+    let Some(h) = header else {
+        return unknown;
+    };
+    Y4mFrame {
+        width: h.size.width,
+        height: h.size.height,
+        sampling: code_of(h.format.sampling),
+        depth: h.format.depth,
+        ..unknown
     }
 }
 
@@ -99,38 +93,29 @@ pub fn header(stream: &[u8]) -> Y4mFrame
     let Some(h) = y4m_lines::read_header(stream) else {
         return framed(Told::from(YuvError::MalformedStream), None, 0, 0);
     };
-    match y4m_frames::check_known::<EitherElement>(h) {
-        Ok(known) => framed(accepted(), Some(known), h.past as u64, 0),
-        Err(e) => framed(Told::from(e), None, 0, 0),
-    }
+    let known = y4m_frames::check_known::<EitherElement>(h);
+    let next = known.map_or(0, |_| h.past as u64);
+    framed(told_of(known), known.ok(), next, 0)
 }
 
 // The three planes of a frame, with their strides.
 fn read_planes<S: Sample>(s: &[u8], frame: Frame, y: &mut [S], u: &mut [S], v: &mut [S], t: Strides)
     requires { PlanesFit S.SIZE s.now frame t (length y.old) (length u.old) (length v.old) }
     ensures y_plane { S.numbers y.new ≡
-        plane_read S.SIZE s.now frame.places.y frame.header.width frame.header.height
+        plane_read S.SIZE s.now frame.places.y frame.header.size.width frame.header.size.height
         t.y (S.numbers y.old) }
     ensures u_plane { S.numbers u.new ≡
-        plane_read S.SIZE s.now frame.places.u (chroma_width frame.header.width)
-        (chroma_height (sampling_of frame.header.format.sampling) frame.header.height)
+        plane_read S.SIZE s.now frame.places.u (chroma_width frame.header.size.width)
+        (chroma_height frame.header.format.sampling frame.header.size.height)
         t.u (S.numbers u.old) }
     ensures v_plane { S.numbers v.new ≡
-        plane_read S.SIZE s.now frame.places.v (chroma_width frame.header.width)
-        (chroma_height (sampling_of frame.header.format.sampling) frame.header.height)
+        plane_read S.SIZE s.now frame.places.v (chroma_width frame.header.size.width)
+        (chroma_height frame.header.format.sampling frame.header.size.height)
         t.v (S.numbers v.old) }
 {
-    let header = frame.header;
     let places = frame.places;
-    let luma = Size {
-        width: header.width,
-        height: header.height,
-    };
-    let sampling = yuv_support::sampling_of(header.format.sampling);
-    let chroma = Size {
-        width: images::chroma_width(header.width),
-        height: images::chroma_height(sampling, header.height),
-    };
+    let luma = frame.header.size;
+    let chroma = images::chroma_size(frame.header.format.sampling, luma);
     let y = PlaneMut {
         elements: y,
         stride: t.y,
@@ -148,7 +133,8 @@ fn read_planes<S: Sample>(s: &[u8], frame: Frame, y: &mut [S], u: &mut [S], v: &
     read_plane(v, s, places.v, chroma);
 }
 
-// The frame at a place of a stream, 0 standing for the header's end, into planes: questions 16 to 18, then 7 to 12.
+// The frame at a place of a stream, into planes: questions 16 to 18, then 7 to 12. The place 0 is
+// the header's end.
 pub fn read<S: Sample>(
     stream: &[u8],
     place: u64,
@@ -172,6 +158,8 @@ pub fn read<S: Sample>(
         (lengths_of y.entry.elements.now u.entry.elements.now v.entry.elements.now)
         (S.numbers v.entry.elements.now) }
 {
+    // Taken apart, and made again below: of a plane that is lent or handed on whole, nothing is
+    // known of its elements at the end.
     let t = Strides {
         y: y.stride,
         u: u.stride,
@@ -180,6 +168,7 @@ pub fn read<S: Sample>(
     let PlaneMut { elements: y, .. } = y;
     let PlaneMut { elements: u, .. } = u;
     let PlaneMut { elements: v, .. } = v;
+    // `Lengths` of a conversion, of which questions 7 to 12 ask no length of rgb.
     let l = Lengths {
         y: y.len() as u64,
         u: u.len() as u64,
@@ -187,62 +176,50 @@ pub fn read<S: Sample>(
         rgb: 0,
     };
     let judged = y4m_frames::judge::<S>(stream, place, t, l);
-    let found = match judged.frame {
-        Ok(found) => found,
-        Err(e) => return framed(Told::from(e), judged.header, place, 0),
-    };
-    let Some(frame) = found else {
-        return framed(accepted(), judged.header, place, 0);
+    let told = told_of(judged.frame);
+    let Some(frame) = judged.frame.ok().flatten() else {
+        return framed(told, judged.header, place, 0);
     };
     read_planes(stream, frame, y, u, v, t);
-    framed(accepted(), judged.header, frame.places.end as u64, 1)
+    framed(told, judged.header, frame.places.end as u64, 1)
 }
 
 // ---- writing
 
-// Questions 1 to 4, for samples of one type.
+// Questions 1 to 4, for samples of one type: the format that the codes are.
 #[tactic(auto, unfolding(yuv_error::specs::Asked::asked))]
-fn check_format<D: Depths>(
-    sampling: u32,
-    depth: u32,
-    width: u32,
-    height: u32,
-) -> Result<(), YuvError>
+fn check_format<D: Depths>(sampling: u32, depth: u32, size: Size) -> Result<Format, YuvError>
     ensures answer { result ≡
-        asked (format_questions sampling (among depth D.known) width height) }
-    ensures height_least { IfOk result (λ _. 1 ≤ height) }
-    ensures width_most { IfOk result (λ _. width ≤ 16384) }
-    ensures height_most { IfOk result (λ _. height ≤ 16384) }
+        giving (asked (format_questions sampling (among depth D.known) size.width size.height))
+        (record { sampling = sampling_of sampling; depth = depth }) }
+    ensures format { IfOk result (λ f. f
+        ≡ record { sampling = sampling_of sampling; depth = depth }) }
+    ensures height_least { IfOk result (λ _. 1 ≤ size.height) }
+    ensures width_most { IfOk result (λ _. size.width ≤ 16384) }
+    ensures height_most { IfOk result (λ _. size.height ≤ 16384) }
 {
-    images::check_sampling(sampling)?;
+    let sampling = images::check_sampling(sampling)?;
     ask(D::is_known_depth(depth), YuvError::UnknownCode)?;
-    check_sides(width, height)
+    check_sides(size)?;
+    Ok(Format { sampling, depth })
 }
 
-// The answer of a call that writes, by the bytes that it wrote.
+// The answer of a call that writes, by the bytes that it wrote. A function and no `From`: the
+// errors of a call that reads are told in another record, and the name says in which.
 fn told_written(written: Result<usize, YuvError>) -> Written
     ensures { result ≡ written_by written }
 {
-    match written {
-        Ok(n) => Written {
-            number: 0,
-            expected: 0,
-            received: 0,
-            written: n as u64,
-        },
-        Err(e) => {
-            let told = Told::from(e);
-            Written {
-                number: told.number,
-                expected: told.expected,
-                received: told.received,
-                written: 0,
-            }
-        }
+    let told = told_of(written);
+    Written {
+        number: told.number,
+        expected: told.expected,
+        received: told.received,
+        written: written.unwrap_or(0) as u64,
     }
 }
 
-// A text at the begin of an output.
+// A text at the begin of an output. A function of its own: `copy_from_slice` tells of the part, and
+// here it is said of the whole.
 fn put(out: &mut [u8], text: &[u8])
     requires { length text.now ≤ length out.old }
     ensures { out.new ≡ sets out.old 0 text.now }
@@ -250,22 +227,18 @@ fn put(out: &mut [u8], text: &[u8])
     out[..text.len()].copy_from_slice(text);
 }
 
-// The header of a stream, at the begin of an output: questions 1 to 4, then 5. The answer is how many bytes it has.
+// The header of a stream, at the begin of an output: questions 1 to 4, then 5. The answer is how
+// many bytes it has.
 #[tactic(auto, unfolding(yuv_error::specs::Asked::asked))]
-fn put_header(
-    sampling: u32,
-    depth: u32,
-    width: u32,
-    height: u32,
-    out: &mut [u8],
-) -> Result<usize, YuvError>
+fn put_header(sampling: u32, depth: u32, size: Size, out: &mut [u8]) -> Result<usize, YuvError>
     ensures count { result ≡
-        giving (asked (header_asked sampling depth width height (length out.old)))
-        (length (header_text sampling depth width height)) }
-    ensures output { out.new ≡ output_by result (header_text sampling depth width height) out.old }
+        giving (asked (header_asked sampling depth size.width size.height (length out.old)))
+        (length (header_text sampling depth size.width size.height)) }
+    ensures output { out.new
+        ≡ output_by result (header_text sampling depth size.width size.height) out.old }
 {
-    check_format::<EitherElement>(sampling, depth, width, height)?;
-    let text = y4m_text::header_text(sampling, depth, width, height);
+    let format = check_format::<EitherElement>(sampling, depth, size)?;
+    let text = y4m_text::header_text(format, size);
     let bytes = text.as_bytes();
     check_output(out.len() as u64, bytes.len() as u64)?;
     put(out, bytes);
@@ -273,14 +246,16 @@ fn put_header(
 }
 
 // The header of a stream, at the begin of an output: questions 1 to 4, then 5.
-pub fn write_header(sampling: u32, depth: u32, width: u32, height: u32, out: &mut [u8]) -> Written
-    ensures answer { result ≡ header_written sampling depth width height (length out.old) }
-    ensures output { out.new ≡ after_header sampling depth width height out.old }
+pub fn write_header(sampling: u32, depth: u32, size: Size, out: &mut [u8]) -> Written
+    ensures answer { result
+        ≡ header_written sampling depth size.width size.height (length out.old) }
+    ensures output { out.new ≡ after_header sampling depth size.width size.height out.old }
 {
-    told_written(put_header(sampling, depth, width, height, out))
+    told_written(put_header(sampling, depth, size, out))
 }
 
-// Questions 1 to 4, 7 to 12 and then 5 of an output of `out_length` bytes.
+// Questions 1 to 4, 7 to 12 and then 5 of an output of `out_length` bytes: the sampling that the
+// code is.
 #[tactic(auto, unfolding(yuv_error::specs::Asked::asked))]
 fn check_frame<S: Sample>(
     sampling: u32,
@@ -288,17 +263,28 @@ fn check_frame<S: Sample>(
     image: Geometry,
     l: Lengths,
     out_length: u64,
-) -> Result<(), YuvError>
-    ensures { result ≡ asked (frame_asked S.known S.SIZE sampling depth image l out_length) }
+) -> Result<YuvChromaSubsampling, YuvError>
+    ensures { result ≡
+        giving (asked (frame_asked S.known S.SIZE sampling depth image l out_length))
+        (sampling_of sampling) }
 {
-    check_format::<S>(sampling, depth, image.width, image.height)?;
-    images::check_constraints(yuv_support::sampling_of(sampling), image, l)?;
-    let places = y4m_frames::places_of::<S>(6, sampling, image.width, image.height);
-    check_output(out_length, places.end as u64)
+    let size = Size {
+        width: image.width,
+        height: image.height,
+    };
+    let format = check_format::<S>(sampling, depth, size)?;
+    images::check_constraints(format.sampling, image, l)?;
+    let places = y4m_frames::places_of::<S>(6, format.sampling, size);
+    check_output(out_length, places.end as u64)?;
+    Ok(format.sampling)
 }
 
 // The line and the samples of an accepted frame; the answer is how many bytes that is.
-fn put_planes<S: Sample>(sampling: u32, image: &YuvPlanarImage<'_, S>, out: &mut [u8]) -> usize
+fn put_planes<S: Sample>(
+    sampling: YuvChromaSubsampling,
+    image: &YuvPlanarImage<'_, S>,
+    out: &mut [u8],
+) -> usize
     requires { OutputFits S.SIZE sampling (geometry image.now) (lengths_with image.now 0)
         (length out.old) }
     ensures count { result ≡ frame_length S.SIZE sampling (geometry image.now) }
@@ -311,10 +297,7 @@ fn put_planes<S: Sample>(sampling: u32, image: &YuvPlanarImage<'_, S>, out: &mut
         width: image.width,
         height: image.height,
     };
-    let chroma = Size {
-        width: images::chroma_width(image.width),
-        height: images::chroma_height(yuv_support::sampling_of(sampling), image.height),
-    };
+    let chroma = images::chroma_size(sampling, luma);
     let y = Plane {
         elements: image.y_plane,
         stride: image.y_stride,
@@ -333,7 +316,8 @@ fn put_planes<S: Sample>(sampling: u32, image: &YuvPlanarImage<'_, S>, out: &mut
     write_plane(out, u_end, v, chroma)
 }
 
-// A frame, at the begin of an output: questions 1 to 4, 7 to 12, then 5. The answer is how many bytes it has.
+// A frame, at the begin of an output: questions 1 to 4, 7 to 12, then 5. The answer is how many
+// bytes it has.
 fn put_frame<S: Sample>(
     sampling: u32,
     depth: u32,
@@ -343,14 +327,14 @@ fn put_frame<S: Sample>(
     ensures count { result ≡
         giving (asked (frame_asked S.known S.SIZE sampling depth (geometry image.now)
         (lengths_with image.now 0) (length out.old)))
-        (frame_length S.SIZE sampling (geometry image.now)) }
+        (frame_length S.SIZE (sampling_of sampling) (geometry image.now)) }
     ensures output { out.new ≡ output_by result
-        (frame_text S.SIZE sampling (geometry image.now)
+        (frame_text S.SIZE (sampling_of sampling) (geometry image.now)
         (S.numbers image.now.y_plane.now) (S.numbers image.now.u_plane.now)
         (S.numbers image.now.v_plane.now)) out.old }
 {
     let length = out.len() as u64;
-    check_frame::<S>(sampling, depth, image.geometry(), image.lengths(0), length)?;
+    let sampling = check_frame::<S>(sampling, depth, image.geometry(), image.lengths(0), length)?;
     Ok(put_planes(sampling, image, out))
 }
 

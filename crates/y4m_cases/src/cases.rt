@@ -1,7 +1,8 @@
 // The calls that read, each with its name and its stream.
 
-// What is asked of a stream: its header, or the frame at a place, into planes of bytes, into planes of bytes whose rows of Y are too close
-// together, or into planes of `u16`.
+// What is asked of a stream: its header, or the frame at a place, into planes of bytes, into planes
+// of bytes whose rows of Y are too close together, or into planes of `u16`. The header is asked for
+// at no place, so its case has none.
 #[derive(Clone, Copy)]
 pub enum Call {
     Header,

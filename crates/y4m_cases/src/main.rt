@@ -7,7 +7,7 @@ mod cases;
 use cases::{CASES, Call};
 use images::YuvPlanarImage;
 use sample::Sample;
-use sample::plane::PlaneMut;
+use sample::plane::{PlaneMut, Size};
 use std::fmt::Display;
 use std::io;
 use std::io::Write;
@@ -116,12 +116,24 @@ fn show_written(rt: &impl Print, name: &str, w: Written, out: &[u8]) -> io::Resu
 
 fn write_headers(rt: &impl Print) -> io::Result<()> {
     let mut out = [b'*'; 48];
-    let w = y4m::write_header(1, 12, 16384, 1, &mut out);
+    let widest = Size {
+        width: 16384,
+        height: 1,
+    };
+    let w = y4m::write_header(1, 12, widest, &mut out);
     show_written(rt, "a header", w, &out)?;
-    let w = y4m::write_header(1, 8, 1, 1, &mut out);
+    let least = Size {
+        width: 1,
+        height: 1,
+    };
+    let w = y4m::write_header(1, 8, least, &mut out);
     show_written(rt, "a header of 8 bits", w, &out)?;
     let mut out = [b'*'; 32];
-    let w = y4m::write_header(0, 8, 16384, 16384, &mut out);
+    let largest = Size {
+        width: 16384,
+        height: 16384,
+    };
+    let w = y4m::write_header(0, 8, largest, &mut out);
     show_written(rt, "a header without room", w, &out)
 }
 

@@ -14,6 +14,7 @@ use Rattle.yuv_support.specs.Settings.{among, depths8, depths16}
 use Rattle.yuv_support.specs.Questions.{verdict}
 use Rattle.yuv_support.proofs.Overlay.{below_or_not}
 use Rattle.images.proofs.Held.{Sides, sides_held}
+use Rattle.sheet_numbers.proofs.Optional.{some_met, none_unmet}
 use Rattle.y4m_lines.specs.declared.Header.{Header}
 use Rattle.y4m_lines.specs.Lines.{past_line}
 use Rattle.y4m_lines.specs.Header.{known_format, is_header, width_of, height_of, format_in}
@@ -31,18 +32,10 @@ pub record HeaderIs (s : List ℕ) (h : Header) : Type 0 where
   pub format : h.format ≡ known_format (format_in s)
   pub past : h.past ≡ past_line s 0
 
-formed_is : (t : Bool) (g h : Header) → cond t (Some g) None ≡ Some h → (t ≡ true) × (h ≡ g)
-formed_is true g h e = (refl, cc)
-formed_is false g h e = let z : ◌≡◌ {A = ℕ} 0 1 = cc in absurd (omega arith)
-
-not_formed : (t : Bool) (g : Header) → cond t (Some g) None ≡ None → t ≡ false
-not_formed true g e = let z : ◌≡◌ {A = ℕ} 0 1 = cc in absurd (omega arith)
-not_formed false g e = refl
-
 pub header_is : (s : List ℕ) {h : Header} → header_read s ≡ Some h → HeaderIs s h
 unfolding header_read
 header_is s {h} e =
-    let f = formed_is (is_header s) _ h e in
+    let f = some_met (is_header s) _ h e in
     record {
       formed = f.0;
       width = ap (λ (x : Header). x.width) f.1;
@@ -53,7 +46,7 @@ header_is s {h} e =
 
 pub header_not : (s : List ℕ) → header_read s ≡ None → is_header s ≡ false
 unfolding header_read
-header_not s e = not_formed (is_header s) _ e
+header_not s e = none_unmet (is_header s) _ e
 
 -- ---- question 17
 
@@ -91,7 +84,7 @@ module _ {s : List ℕ} {h : Header} (is : HeaderIs s h) where
   known_met known zero_unknown = rw (is.width, is.height, is.format) (by_depth (eqb (format_in s).depth 0) refl)
     where
       by_sides : (t : Bool) → (among (format_in s).depth known && sides_known (width_of s) (height_of s)) ≡ t
-          → cond t (Ok (record { width = capped (width_of s); height = capped (height_of s); format = format_in s })) (Err UnknownStream)
+          → cond t (Ok (record { size = record { width = capped (width_of s); height = capped (height_of s) }; format = format_in s })) (Err UnknownStream)
           ≡ cond t (Ok (said_of s)) (Err UnknownStream)
       by_sides false k = refl
       by_sides true k =

@@ -4,7 +4,6 @@ use mathlib.Core.Path.{◌≡◌, refl}
 use mathlib.Core.Bool.{Bool, true, false, cond, ◌&&◌}
 use mathlib.Core.List.{List, [], ◌∷◌}
 use Prim.Native.Nat.{ℕ}
-use Rattle.yuv_support.specs.Settings.{sampling_of}
 use Rattle.yuv_support.specs.Questions.{ask}
 use Rattle.std.specs.Prelude.{Err}
 use Rattle.yuv_error.specs.declared.error.YuvError.TheVariants.{MalformedStream}
@@ -25,7 +24,7 @@ module _ (e : ℕ) (s : List ℕ) (place : ℕ) (t : Strides) (l : Lengths) wher
   all_told = by_end (ends_at s place)
     where
       by_end : (b : Bool) → AllTold (ask 16 (is_header s && is_place s place) ∷ ask 17 (is_known (depths_of e) s)
-          ∷ cond b [] (ask 18 (is_whole e s place) ∷ constraints (sampling_of (format_in s).sampling) (lent_image (width_of s) (height_of s) t) l))
+          ∷ cond b [] (ask 18 (is_whole e s place) ∷ constraints (format_in s).sampling (lent_image (width_of s) (height_of s) t) l))
       by_end true = (refl, (refl, tt))
       by_end false = (refl, (refl, (refl, (refl, (refl, (refl, (refl, (refl, (refl, tt)))))))))
 

@@ -1,14 +1,15 @@
 -- What the functions that judge a frame answer, by the definitions of Stream and Questions.
 -- Definitions only.
 use Rattle.std.specs.Prelude.{ℕ, cond, ◌&&◌, List, ◌∷◌, leb, length, Option, Some, None, Result, Ok, Err}
-use Rattle.yuv_support.specs.Settings.{among, sampling_of}
+use Rattle.yuv_support.specs.declared.YuvChromaSubsampling.{YuvChromaSubsampling}
+use Rattle.yuv_support.specs.Settings.{among}
 use Rattle.yuv_support.specs.Questions.{Question, ask}
 use Rattle.yuv_error.specs.declared.error.YuvError.{YuvError}
 use Rattle.yuv_error.specs.declared.error.YuvError.TheVariants.{MalformedStream, UnknownStream}
 use Rattle.yuv_error.specs.Asked.{asked, giving}
 use Rattle.images.specs.declared.Lengths.{Lengths}
 use Rattle.images.specs.Request.{constraints}
-use Rattle.y4m_lines.specs.declared.Format.{Format}
+use Rattle.y4m_text.specs.declared.Format.{Format}
 use Rattle.y4m_lines.specs.declared.Header.{Header}
 use Rattle.y4m_lines.specs.Header.{is_header, width_of, height_of, format_in}
 use Rattle.y4m_frames.specs.declared.KnownHeader.{KnownHeader}
@@ -24,7 +25,7 @@ use Rattle.y4m_frames.specs.Questions.{lent_image, frame_questions}
 abbrev pub known_with : List ℕ → ℕ → ℕ → Option Format → Result KnownHeader YuvError
 known_with known width height None = Err UnknownStream
 known_with known width height (Some f) =
-    cond (among f.depth known && sides_known width height) (Ok (record { width = width; height = height; format = f })) (Err UnknownStream)
+    cond (among f.depth known && sides_known width height) (Ok (record { size = record { width = width; height = height }; format = f })) (Err UnknownStream)
 
 -- of a header as it was read
 abbrev pub known_header : List ℕ → Header → Result KnownHeader YuvError
@@ -32,7 +33,7 @@ known_header known h = known_with known h.width h.height h.format
 
 -- of a stream whose header is well formed
 abbrev pub said_of : List ℕ → KnownHeader
-said_of s = record { width = width_of s; height = height_of s; format = format_in s }
+said_of s = record { size = record { width = width_of s; height = height_of s }; format = format_in s }
 
 abbrev pub header_known : List ℕ → List ℕ → Result KnownHeader YuvError
 header_known known s = cond (is_known known s) (Ok (said_of s)) (Err UnknownStream)
@@ -48,7 +49,7 @@ abbrev pub samples_at : List ℕ → ℕ → Result (Option ℕ) YuvError
 samples_at s place = cond (is_place s place) (Ok (cond (ends_at s place) None (Some (samples_begin s place)))) (Err MalformedStream)
 
 -- where the planes of a frame begin and end whose samples begin at a place
-abbrev pub places_of : ℕ → ℕ → ℕ → ℕ → ℕ → Places
+abbrev pub places_of : ℕ → ℕ → YuvChromaSubsampling → ℕ → ℕ → Places
 places_of e at sampling width height = record {
   y = at;
   u = u_begin e at width height;
@@ -59,12 +60,12 @@ places_of e at sampling width height = record {
 -- 18 and 7 to 12 of samples that begin at a place
 abbrev pub samples_questions : ℕ → List ℕ → ℕ → KnownHeader → Strides → Lengths → List Question
 samples_questions e s at h t l =
-    ask 18 (leb (frame_end e at h.format.sampling h.width h.height) (length s))
-    ∷ constraints (sampling_of h.format.sampling) (lent_image h.width h.height t) l
+    ask 18 (leb (frame_end e at h.format.sampling h.size.width h.size.height) (length s))
+    ∷ constraints h.format.sampling (lent_image h.size.width h.size.height t) l
 
 -- the frame whose samples begin at a place
 abbrev pub frame_in : ℕ → ℕ → KnownHeader → Frame
-frame_in e at h = record { header = h; places = places_of e at h.format.sampling h.width h.height }
+frame_in e at h = record { header = h; places = places_of e at h.format.sampling h.size.width h.size.height }
 
 -- the frame at a place; at the stream's end there is none
 abbrev pub frame_at : ℕ → List ℕ → ℕ → Option Frame

@@ -2,7 +2,6 @@
 -- Definitions only.
 use Rattle.std.specs.Prelude.{ℕ, Bool, false, cond, ◌&&◌, List, [], ◌∷◌, eqb, length}
 use Rattle.yuv_support.specs.declared.Geometry.{Geometry}
-use Rattle.yuv_support.specs.Settings.{sampling_of}
 use Rattle.yuv_support.specs.Questions.{Question, Verdict, ask, verdict}
 use Rattle.images.specs.declared.Lengths.{Lengths}
 use Rattle.images.specs.Request.{constraints}
@@ -33,7 +32,7 @@ frame_questions e s place t l =
     ask 16 (is_header s && is_place s place)
     ∷ ask 17 (is_known (depths_of e) s)
     ∷ cond (ends_at s place) []
-    (ask 18 (is_whole e s place) ∷ constraints (sampling_of (format_in s).sampling) (lent_image (width_of s) (height_of s) t) l)
+    (ask 18 (is_whole e s place) ∷ constraints (format_in s).sampling (lent_image (width_of s) (height_of s) t) l)
 
 unfoldable pub frame_answer : ℕ → List ℕ → ℕ → Strides → Lengths → Verdict
 frame_answer e s place t l = verdict (frame_questions e s place t l)

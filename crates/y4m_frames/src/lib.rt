@@ -1,5 +1,6 @@
-// Where the frames of a YUV4MPEG2 stream stand, and the questions that a call for one is asked: 16 to 18 of the stream, then 7 to 12 of the
-// lent planes.
+// Where the frames of a YUV4MPEG2 stream are, and the questions that a call for one is asked: 16 to
+// 18 of the stream, then 7 to 12 of the lent planes.
+// A text and a place in it stay two parameters: the definitions count places from the begin.
 #![tactic(auto)]
 
 ghost use Rattle.std.specs.Prelude.{◌≡◌, true, cond, ◌*◌, ◌≤◌, eqb, length, Some, IfSome, IfOk};
@@ -16,12 +17,15 @@ ghost use Rattle.y4m_frames.specs.Judged.{known_header, header_known, header_sai
 use images::{Lengths, check_constraints};
 use sample::Sample;
 use sample::depths::Depths;
-use y4m_lines::{Format, Header};
+use sample::plane::Size;
+use y4m_lines::Header;
+use y4m_text::Format;
 use yuv_error::YuvError;
 use yuv_error::buffers::{ask, check_sides};
-use yuv_support::Geometry;
+use yuv_support::{Geometry, YuvChromaSubsampling};
 
-// The strides of the lent planes.
+// The strides of the lent planes. Beside `Lengths`, and not one `Buffer` for each plane: the
+// definitions of the questions, which the clauses of reading cite, are over the two.
 #[derive(Clone, Copy)]
 pub struct Strides {
     pub y: u32,
@@ -29,11 +33,11 @@ pub struct Strides {
     pub v: u32,
 }
 
-// What a header says that meets neither 16 nor 17.
+// What a header says, where questions 16 and 17 get a "yes". No ghost fields say its bounds: the
+// definitions make this record of any header (`said_of`), and would have to hold the proofs too.
 #[derive(Clone, Copy)]
 pub struct KnownHeader {
-    pub width: u32,
-    pub height: u32,
+    pub size: Size,
     pub format: Format,
 }
 
@@ -46,14 +50,15 @@ pub struct Places {
     pub end: usize,
 }
 
-// A frame of a stream: what its header says, and where the planes stand.
+// A frame of a stream: what its header says, and where the planes are.
 #[derive(Clone, Copy)]
 pub struct Frame {
     pub header: KnownHeader,
     pub places: Places,
 }
 
-// What is told of a call for a frame: the header, where it is known, and the frame, if the stream does not end at the place.
+// What is told of a call for a frame: the header, where it is known, and the frame, if the stream
+// does not end at the place.
 #[derive(Clone, Copy)]
 pub struct Judged {
     pub header: Option<KnownHeader>,
@@ -66,27 +71,23 @@ pub struct Judged {
 #[tactic(auto, unfolding(yuv_error::specs::Asked::asked, yuv_support::specs::Questions::verdict))]
 pub fn check_known<D: Depths>(h: Header) -> Result<KnownHeader, YuvError>
     ensures known { result ≡ known_header D.known h }
-    ensures height_least { IfOk result (λ k. 1 ≤ k.height) }
-    ensures width_most { IfOk result (λ k. k.width ≤ 16384) }
-    ensures height_most { IfOk result (λ k. k.height ≤ 16384) }
+    ensures height_least { IfOk result (λ k. 1 ≤ k.size.height) }
+    ensures width_most { IfOk result (λ k. k.size.width ≤ 16384) }
+    ensures height_most { IfOk result (λ k. k.size.height ≤ 16384) }
 {
-    let Some(format) = h.format else {
-        return Err(YuvError::UnknownStream);
-    };
+    let format = h.format.ok_or(YuvError::UnknownStream)?;
     ask(D::is_known_depth(format.depth), YuvError::UnknownStream)?;
-    match check_sides(h.width, h.height) {
-        Ok(_) => Ok(KnownHeader {
-            width: h.width,
-            height: h.height,
-            format,
-        }),
-        Err(_) => Err(YuvError::UnknownStream),
-    }
+    let size = Size {
+        width: h.width,
+        height: h.height,
+    };
+    check_sides(size).map_err(|_| YuvError::UnknownStream)?;
+    Ok(KnownHeader { size, format })
 }
 
 // ---- the place of a frame
 
-// The place that a frame is asked for at, 0 standing for the header's end.
+// The place that a frame is asked for at; 0 is for the header's end.
 fn frame_begin(place: u64, past: usize) -> usize
     ensures { result ≡ cond (eqb place 0) past place }
 {
@@ -96,7 +97,8 @@ fn frame_begin(place: u64, past: usize) -> usize
     place as usize
 }
 
-// Question 16 of a place, `past` being the header's end: where the samples of its frame begin, if the stream does not end there.
+// Question 16 of a place, `past` being the header's end: where the samples of its frame begin, if
+// the stream does not end there.
 fn samples_at(s: &[u8], place: u64, past: usize) -> Result<Option<usize>, YuvError>
     requires { past ≡ past_line s.now 0 }
     ensures found { result ≡ samples_at s.now place }
@@ -112,28 +114,25 @@ fn samples_at(s: &[u8], place: u64, past: usize) -> Result<Option<usize>, YuvErr
     if at == s.len() {
         return Ok(None);
     }
-    match y4m_lines::read_frame_line(s, at) {
-        Some(end) => Ok(Some(end + 1)),
-        None => Err(YuvError::MalformedStream),
-    }
+    let end = y4m_lines::read_frame_line(s, at).ok_or(YuvError::MalformedStream)?;
+    Ok(Some(end + 1))
 }
 
-// The bytes of a count of samples.
-fn bytes_of<S: Sample>(columns: u32, rows: u32) -> usize
-    requires { (columns ≤ 16384) × (rows ≤ 16384) }
-    ensures { result ≡ S.SIZE * (columns * rows) }
+// The bytes of the samples of a plane.
+fn bytes_of<S: Sample>(size: Size) -> usize
+    requires { (size.width ≤ 16384) × (size.height ≤ 16384) }
+    ensures { result ≡ S.SIZE * (size.width * size.height) }
 {
-    S::SIZE * (columns as usize * rows as usize)
+    S::SIZE * (size.width as usize * size.height as usize)
 }
 
-// Where the planes of a frame stand whose samples begin at a place.
-pub fn places_of<S: Sample>(at: usize, sampling: u32, width: u32, height: u32) -> Places
-    requires { (width ≤ 16384) × (height ≤ 16384) × (at ≤ 9223372036854775808) }
-    ensures { result ≡ places_of S.SIZE at sampling width height }
+// Where the planes of a frame are whose samples begin at a place.
+pub fn places_of<S: Sample>(at: usize, sampling: YuvChromaSubsampling, size: Size) -> Places
+    requires { (size.width ≤ 16384) × (size.height ≤ 16384) × (at ≤ 9223372036854775808) }
+    ensures { result ≡ places_of S.SIZE at sampling size.width size.height }
 {
-    let rows = images::chroma_height(yuv_support::sampling_of(sampling), height);
-    let luma = bytes_of::<S>(width, height);
-    let chroma = bytes_of::<S>(images::chroma_width(width), rows);
+    let luma = bytes_of::<S>(size);
+    let chroma = bytes_of::<S>(images::chroma_size(sampling, size));
     let u = at + luma;
     let v = u + chroma;
     let end = v + chroma;
@@ -143,11 +142,11 @@ pub fn places_of<S: Sample>(at: usize, sampling: u32, width: u32, height: u32) -
 // ---- the questions
 
 fn image_of(h: KnownHeader, t: Strides) -> Geometry
-    ensures { result ≡ lent_image h.width h.height t }
+    ensures { result ≡ lent_image h.size.width h.size.height t }
 {
     Geometry {
-        width: h.width,
-        height: h.height,
+        width: h.size.width,
+        height: h.size.height,
         y_stride: t.y,
         u_stride: t.u,
         v_stride: t.v,
@@ -164,20 +163,20 @@ fn check_samples<S: Sample>(
     l: Lengths,
 ) -> Result<Option<Frame>, YuvError>
     requires place { at ≤ length s.now }
-    requires height_least { 1 ≤ h.height }
-    requires width_most { h.width ≤ 16384 }
-    requires height_most { h.height ≤ 16384 }
+    requires height_least { 1 ≤ h.size.height }
+    requires width_most { h.size.width ≤ 16384 }
+    requires height_most { h.size.height ≤ 16384 }
     ensures { result ≡
         giving (asked (samples_questions S.SIZE s.now at h t l)) (Some (frame_in S.SIZE at h)) }
 {
-    let places = places_of::<S>(at, h.format.sampling, h.width, h.height);
+    let places = places_of::<S>(at, h.format.sampling, h.size);
     ask(places.end <= s.len(), YuvError::ShortFrame)?;
-    let sampling = yuv_support::sampling_of(h.format.sampling);
-    check_constraints(sampling, image_of(h, t), l)?;
+    check_constraints(h.format.sampling, image_of(h, t), l)?;
     Ok(Some(Frame { header: h, places }))
 }
 
-// Questions 16 of the place, 17, then 18 and 7 to 12 of a stream whose header is well formed; `known` is what question 17 says of it.
+// All questions that are left for a stream whose header is well formed: 16 of the place, 17, whose
+// answer is `known`, then 18 and 7 to 12.
 #[tactic(auto, unfolding(yuv_error::specs::Asked::asked, crate::specs::Judged::judged_frame, crate::specs::Questions::frame_questions))]
 fn check_frame<S: Sample>(
     s: &[u8],
@@ -190,9 +189,9 @@ fn check_frame<S: Sample>(
     requires formed { is_header s.now ≡ true }
     requires past { past ≡ past_line s.now 0 }
     requires known { known ≡ header_known (depths_of S.SIZE) s.now }
-    requires height_least { IfOk known (λ h. 1 ≤ h.height) }
-    requires width_most { IfOk known (λ h. h.width ≤ 16384) }
-    requires height_most { IfOk known (λ h. h.height ≤ 16384) }
+    requires height_least { IfOk known (λ h. 1 ≤ h.size.height) }
+    requires width_most { IfOk known (λ h. h.size.width ≤ 16384) }
+    requires height_most { IfOk known (λ h. h.size.height ≤ 16384) }
     ensures { result ≡ judged_frame S.SIZE s.now place t l }
 {
     let begin = samples_at(s, place, past)?;

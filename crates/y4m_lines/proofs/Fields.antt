@@ -1,32 +1,23 @@
 -- Laws of `before` and of the fields of a line: the library's `take_while` and `split` give them (`before_count`, `fields_split`), and what is
--- left of them in a loop (`named_left`, `empty_left`).
+-- left of them in a loop (`named_left`).
 -- Assumes nothing.
 use mathlib.Core.Path.{◌≡◌, refl, sym, ap, ◌∙◌}
-use mathlib.Core.Bool.{Bool, true, false, cond, not, ◌&&◌}
+use mathlib.Core.Bool.{Bool, true, false, cond, not}
 use mathlib.Core.List.{List, [], ◌∷◌, ◌++◌, append-nil}
 use Prim.Native.Nat.{ℕ, zero, suc, ◌+◌, ◌≤◌, ◌<◌, min}
 use native.Mathlib.Omega.{arith}
-use lib.Dec.{eqb, leb}
+use lib.Dec.{eqb, leb, eqb-suc-zero}
 use lib.ListN.{length, length-append, take, drop, get_or}
 use borrow.Author.Tests.{eq-eqb, ne_eqb, le-leb}
 use denote.Ref.{Bor}
 use Rattle.std.specs.Prelude.{Option, Some, None}
 use Rattle.std.specs.Option.{is_some, option_copied, option_to_list}
-use Rattle.std.specs.List.{prefix_len, slice_split, onto_first}
+use Rattle.std.specs.List.{prefix_len, slice_split, onto_first, list_all}
 use Rattle.std.proofs.lemmas.List.{at_drop_more, at_drop_all}
 use Rattle.y4m_lines.specs.Lines.{before, fields, longer, none_empty}
 use Rattle.y4m_lines.specs.Header.{behind, named}
 
 -- ---- the bytes before a byte
-
-before_most : (b : ℕ) (xs : List ℕ) → length (before b xs) ≤ length xs
-unfolding before
-before_most b [] = omega arith
-before_most b (x ∷ xs) = go (eqb x b) (before_most b xs)
-  where
-    go : (t : Bool) → length (before b xs) ≤ length xs → length (cond t [] (x ∷ before b xs)) ≤ suc (length xs)
-    go true h = omega arith
-    go false h = omega arith
 
 pub before_take : (b : ℕ) (xs : List ℕ) → before b xs ≡ take (length (before b xs)) xs
 unfolding before
@@ -84,6 +75,16 @@ fields_split (x ∷ xs) =
     ap (λ fs. cond (eqb x 32) ([] ∷ fs) (onto_first x fs)) (fields_split xs)
     ∙ ap (λ fs. cond (eqb x 32) ([] ∷ fields xs) fs) (onto_longer x (fields xs) (begun xs))
 
+-- none is empty
+pub all_some : (fs : List (List ℕ)) → list_all (λ f. not (eqb (length f) 0)) fs ≡ none_empty fs
+unfolding none_empty
+all_some [] = refl
+all_some (f ∷ fs) = rw (some f, all_some fs) refl
+  where
+    some : (f : List ℕ) → not (eqb (length f) 0) ≡ leb 1 (length f)
+    some [] = refl
+    some (x ∷ f) = rw (eqb-suc-zero (length f), le-leb 1 (length (x ∷ f)) (omega arith)) refl
+
 -- ---- those that are left in a loop, after n of them
 
 module _ (fs : List (List ℕ)) (n : ℕ) (f : List ℕ) (h : (n < length fs) × (f ≡ get_or fs n f)) where
@@ -91,21 +92,6 @@ module _ (fs : List (List ℕ)) (n : ℕ) (f : List ℕ) (h : (n < length fs) ×
   unfolding named
   named_left letter =
       at_drop_more (named letter) fs n f h.0 ∙ ap (λ g. behind letter g ++ named letter (drop (n + 1) fs)) (sym h.1)
-
-  pub empty_left : none_empty (drop n fs) ≡ leb 1 (length f) && none_empty (drop (n + 1) fs)
-  unfolding none_empty
-  empty_left = at_drop_more none_empty fs n f h.0 ∙ ap (λ g. leb 1 (length g) && none_empty (drop (n + 1) fs)) (sym h.1)
-
-module _ (fs : List (List ℕ)) (n : ℕ) (f : List ℕ) (h : (n < length fs) × (f ≡ get_or fs n f)) (e : none_empty fs ≡ none_empty (drop n fs)) where
-  pub empty_here : length f ≡ 0 → false ≡ none_empty fs
-  empty_here z = sym (e ∙ empty_left fs n f h ∙ rw z refl)
-
-  pub empty_not : (length f ≡ 0 → ⊥) → none_empty fs ≡ none_empty (drop (n + 1) fs)
-  empty_not z = let l : 1 ≤ length f = omega arith in e ∙ empty_left fs n f h ∙ rw (le-leb 1 (length f) l) refl
-
-pub empty_end : (fs : List (List ℕ)) (n : ℕ) → none_empty fs ≡ none_empty (drop n fs) → n ≡ length fs → true ≡ none_empty fs
-unfolding none_empty
-empty_end fs n e l = sym (e ∙ at_drop_all none_empty fs n (omega arith))
 
 pub named_end : (letter : ℕ) (fs : List (List ℕ)) (n : ℕ) {told : List (List ℕ)} → named letter fs ≡ told ++ named letter (drop n fs) → n ≡ length fs
     → named letter fs ≡ told

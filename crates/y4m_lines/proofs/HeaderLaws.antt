@@ -1,57 +1,72 @@
--- Laws of the header: a side and the colour by the texts of their fields, what reading the header answers once its line was found (`HeaderOf`),
--- and a format that is known or missing.
+-- Laws of the header: a side and the colour by the texts of their fields, what reading the header answers once its line was found (`whole_header`).
 -- Assumes nothing.
-use mathlib.Core.Path.{◌≡◌, refl}
+use mathlib.Core.Path.{◌≡◌, refl, sym, ◌∙◌}
 use mathlib.Core.Bool.{Bool, true, false, cond, ◌&&◌}
 use mathlib.Core.List.{List, [], ◌∷◌}
 use Prim.Native.Nat.{ℕ, ◌+◌, ◌-◌, ◌≤◌}
 use native.Mathlib.Omega.{arith}
-use borrow.Author.Tests.{eqb-true}
 use lib.Dec.{eqb}
 use lib.ListN.{length, take}
-use Rattle.std.specs.Prelude.{Option, Some, None, Ok, Err}
+use lib.Pointwise.{pointwise}
+use denote.Ref.{Bor}
+use Rattle.std.specs.Prelude.{Option, Some, None, Result, Ok, Err}
+use Rattle.std.specs.Option.{option_copied, option_to_list}
+use Rattle.std.specs.Result.{IsErr, result_ok}
 use Rattle.sheet_numbers.specs.Read.{begins_with}
+use Rattle.sheet_numbers.proofs.Begins.{starts_begins}
 use Rattle.y4m_text.specs.Words.{header_word}
-use Rattle.y4m_lines.specs.declared.Format.{Format}
+use Rattle.yuv_support.specs.declared.YuvChromaSubsampling.TheVariants.{Yuv420}
+use Rattle.y4m_text.specs.declared.Format.{Format}
 use Rattle.y4m_lines.specs.declared.Repeated.{Repeated}
 use Rattle.y4m_lines.specs.Lines.{line_at, is_line, fields, none_empty}
 use Rattle.y4m_lines.specs.Header.{named, is_side, side_of, format, format_of, known_format, is_colour, colour_of, widths, heights, colours, is_header, width_of, height_of, format_in}
-use Rattle.y4m_lines.specs.Read.{capped, number_read, side_read, colour_read, header_read}
+use Rattle.y4m_lines.specs.Read.{capped, number_read, FieldRead, side_read, colour_read, header_read}
 use Rattle.y4m_lines.proofs.OneLine.{Lined}
-
--- ---- a format
-
-pub format_found : (f : Format) {g : Format} → known_format f ≡ Some g → g ≡ f
-format_found f {g} e = go (eqb f.depth 0) e
-  where
-    go : (t : Bool) → cond t None (Some f) ≡ Some g → g ≡ f
-    go true q = let z : ◌≡◌ {A = ℕ} 0 1 = cc in absurd (omega arith)
-    go false q = cc
-
-pub format_missing : (f : Format) → known_format f ≡ None → f.depth ≡ 0
-format_missing f e = go (eqb f.depth 0) refl e
-  where
-    go : (t : Bool) → eqb f.depth 0 ≡ t → cond t None (Some f) ≡ None → f.depth ≡ 0
-    go true q r = eqb-true f.depth 0 q
-    go false q r = let z : ◌≡◌ {A = ℕ} 0 1 = cc in absurd (omega arith)
 
 -- ---- a side and the colour, by the texts of their fields
 
-pub side_absent : {texts : List (List ℕ)} → texts ≡ [] → None ≡ side_read texts
+side_absent : {texts : List (List ℕ)} → texts ≡ [] → None ≡ side_read texts
 unfolding is_side
 side_absent e = rw e
 
-pub side_single : {texts : List (List ℕ)} {text : List ℕ} → texts ≡ text ∷ [] → number_read text ≡ side_read texts
+side_single : {texts : List (List ℕ)} {text : List ℕ} → texts ≡ text ∷ [] → number_read text ≡ side_read texts
 unfolding is_side side_of
 side_single e = rw e
 
-pub side_several : (texts : List (List ℕ)) → 2 ≤ length texts → None ≡ side_read texts
+side_several : (texts : List (List ℕ)) → 2 ≤ length texts → None ≡ side_read texts
 unfolding is_side
 side_several [] h = absurd (omega arith)
 side_several (text ∷ []) h = absurd (omega arith)
 side_several (text ∷ second ∷ more) h = refl
 
-pub colour_absent : {texts : List (List ℕ)} → texts ≡ [] → Ok (Some (format 0 8)) ≡ colour_read texts
+-- of what was found of a letter
+module _ (texts : List (List ℕ)) (r : Result (Option (Bor (List ℕ))) Repeated)
+    (found : FieldRead texts r) where
+  pub side_of_several : result_ok r ≡ None → None ≡ side_read texts
+  side_of_several is = by_result r found is
+    where
+      by_result : (r : Result (Option (Bor (List ℕ))) Repeated)
+          → FieldRead texts r → result_ok r ≡ None → None ≡ side_read texts
+      by_result (Ok text) m e = let z : ◌≡◌ {A = ℕ} 0 1 = cc in absurd (omega arith)
+      by_result (Err f) m e = side_several texts m
+
+  module _ {o : Option (Bor (List ℕ))} (is : result_ok r ≡ Some o) where
+    found_ok : texts ≡ option_to_list (option_copied o)
+    found_ok = by_result r found is
+      where
+        by_result : (r : Result (Option (Bor (List ℕ))) Repeated)
+            → FieldRead texts r → result_ok r ≡ Some o
+            → texts ≡ option_to_list (option_copied o)
+        by_result (Ok text) m e = let same : text ≡ o = cc in rw same at m
+        by_result (Err f) m e = let z : ◌≡◌ {A = ℕ} 0 1 = cc in absurd (omega arith)
+
+    pub side_of_none : o ≡ None → None ≡ side_read texts
+    side_of_none e = side_absent (rw e at found_ok)
+
+    pub side_of_one : {text : Bor (List ℕ)} → o ≡ Some text → number_read text.now ≡ side_read texts
+    side_of_one e = side_single (rw e at found_ok)
+
+pub colour_absent : {texts : List (List ℕ)} → texts ≡ [] → Ok (Some (format Yuv420 8)) ≡ colour_read texts
 unfolding is_colour colour_of
 colour_absent e = rw e
 
@@ -59,11 +74,12 @@ pub colour_single : {texts : List (List ℕ)} {text : List ℕ} → texts ≡ te
 unfolding is_colour colour_of
 colour_single e = rw e
 
-pub colour_several : (texts : List (List ℕ)) (r : Repeated) → 2 ≤ length texts → Err r ≡ colour_read texts
+pub colour_several : (texts : List (List ℕ)) (r : Result (Option Format) Repeated) → IsErr r → 2 ≤ length texts → r ≡ colour_read texts
 unfolding is_colour
-colour_several [] r h = absurd (omega arith)
-colour_several (text ∷ []) r h = absurd (omega arith)
-colour_several (text ∷ second ∷ more) r h = refl
+colour_several [] r e h = absurd (omega arith)
+colour_several (text ∷ []) r e h = absurd (omega arith)
+colour_several (text ∷ second ∷ more) (Err f) e h = refl
+colour_several (text ∷ second ∷ more) (Ok x) e h = let z : ◌≡◌ {A = ℕ} 0 1 = cc in absurd (omega arith)
 
 -- which of two was chosen, where the answer is not the other
 taken : {A : Type 0} (t : Bool) {a b x : A} → x ≡ cond t a b → (x ≡ b → ◌≡◌ {A = ℕ} 0 1) → (t ≡ true) × (x ≡ a)
@@ -82,16 +98,28 @@ side_is texts e =
 no_side : (texts : List (List ℕ)) → None ≡ side_read texts → is_side texts ≡ false
 no_side texts e = left (is_side texts) None e (λ q. cc)
 
-colour_is : (texts : List (List ℕ)) {named : Option Format} → Ok named ≡ colour_read texts
-    → (is_colour texts ≡ true) × (named ≡ known_format (colour_of texts))
-colour_is texts e =
-    let f = taken (is_colour texts) e (λ q. cc) in
-    (f.0, let g = f.1 in cc)
+colour_is : (texts : List (List ℕ)) {found : Option Format} → result_ok (colour_read texts) ≡ Some found
+    → (is_colour texts ≡ true) × (found ≡ known_format (colour_of texts))
+colour_is texts {found} e = by_test (is_colour texts) e
+  where
+    by_test : (t : Bool) → result_ok {E = Repeated} (cond t (Ok (known_format (colour_of texts))) (Err (record {}))) ≡ Some found
+        → (t ≡ true) × (found ≡ known_format (colour_of texts))
+    by_test true h = (refl, cc)
+    by_test false h = let z : ◌≡◌ {A = ℕ} 0 1 = cc in absurd (omega arith)
 
-no_colour : (texts : List (List ℕ)) (r : Repeated) → Err r ≡ colour_read texts → is_colour texts ≡ false
-no_colour texts r e = left (is_colour texts) (Err (record {})) e (λ q. cc)
+no_colour : (texts : List (List ℕ)) → result_ok (colour_read texts) ≡ None → is_colour texts ≡ false
+no_colour texts e = by_test (is_colour texts) e
+  where
+    by_test : (t : Bool) → result_ok {E = Repeated} (cond t (Ok (known_format (colour_of texts))) (Err (record {}))) ≡ None → t ≡ false
+    by_test true h = let z : ◌≡◌ {A = ℕ} 0 1 = cc in absurd (omega arith)
+    by_test false h = refl
 
 -- ---- what reading the header answers
+
+-- what is asked of the first word, by the library's `starts_with`
+pub worded : (text : List ℕ) {b t : Bool} → b ≡ pointwise eqb header_word (take (length header_word) text) → b ≡ t
+    → begins_with text header_word ≡ t
+worded text starts is = sym (starts_begins text header_word refl) ∙ (sym starts ∙ is)
 
 first_text : {s : List ℕ} {end : ℕ} → Lined s 0 end → take end s ≡ line_at s 0
 first_text {s} {end} l = let e : end ≡ end - 0 = omega arith in rw e l.text
@@ -126,21 +154,23 @@ module _ {s : List ℕ} {end : ℕ} (l : Lined s 0 end) where
         no_height e = rw (sides_left, (side_is (widths s) (rw (first_text l) at wide)).0, no_side (heights s) (rw (first_text l) at e))
 
         module _ {height : ℕ} (high : Some height ≡ side_read (named 72 (fields (take end s)))) where
-          pub two_colours : (r : Repeated) → Err r ≡ colour_read (named 67 (fields (take end s))) → None ≡ header_read s
-          unfolding header_read
-          two_colours r e =
-              rw (
-                sides_left,
-                (side_is (widths s) (rw (first_text l) at wide)).0,
-                (side_is (heights s) (rw (first_text l) at high)).0,
-                no_colour (colours s) r (rw (first_text l) at e),
-              )
+          -- by what reading the colour came to
+          module _ {r : Result (Option Format) Repeated} (read : r ≡ colour_read (named 67 (fields (take end s)))) where
+            pub two_colours : result_ok r ≡ None → None ≡ header_read s
+            unfolding header_read
+            two_colours is =
+                rw (
+                  sides_left,
+                  (side_is (widths s) (rw (first_text l) at wide)).0,
+                  (side_is (heights s) (rw (first_text l) at high)).0,
+                  no_colour (colours s) (rw (rw (first_text l) at read) at is),
+                )
 
-          pub whole_header : {found : Option Format} → Ok found ≡ colour_read (named 67 (fields (take end s)))
-              → Some (record { width = width; height = height; format = found; past = end + 1 }) ≡ header_read s
-          unfolding header_read width_of height_of format_in
-          whole_header e =
-              let a = side_is (widths s) (rw (first_text l) at wide) in
-              let b = side_is (heights s) (rw (first_text l) at high) in
-              let f = colour_is (colours s) (rw (first_text l) at e) in
-              rw (sides_left, a.0, b.0, f.0, a.1, b.1, f.1, l.place)
+            pub whole_header : {found : Option Format} → result_ok r ≡ Some found
+                → Some (record { width = width; height = height; format = found; past = end + 1 }) ≡ header_read s
+            unfolding header_read width_of height_of format_in
+            whole_header is =
+                let a = side_is (widths s) (rw (first_text l) at wide) in
+                let b = side_is (heights s) (rw (first_text l) at high) in
+                let f = colour_is (colours s) (rw (rw (first_text l) at read) at is) in
+                rw (sides_left, a.0, b.0, f.0, a.1, b.1, f.1, l.place)

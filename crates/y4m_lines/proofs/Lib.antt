@@ -3,3 +3,4 @@ pub mod Numbers
 pub mod OneLine
 pub mod HeaderLaws
 pub mod WrittenHeader
+pub mod Names

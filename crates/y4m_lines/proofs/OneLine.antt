@@ -2,7 +2,7 @@
 -- what reading a frame line answers.
 -- Assumes nothing.
 use mathlib.Core.Path.{◌≡◌, refl, sym, ◌∙◌}
-use mathlib.Core.Bool.{Bool, true, false, cond, ◌&&◌, and-false, and-eq-true_iff}
+use mathlib.Core.Bool.{Bool, true, false, not, ◌&&◌, and-false, and-eq-true_iff}
 use mathlib.Core.List.{List}
 use mathlib.Core.Logic.{◌⊎◌, inl, inr}
 use Prim.Native.Nat.{ℕ, ◌+◌, ◌-◌, ◌≤◌, ◌<◌, min}
@@ -10,14 +10,18 @@ use native.Mathlib.Omega.{arith}
 use borrow.Author.Tests.{ltb-true, lt-ltb, le-ltb, le-leb, lt-leb, eq-eqb, ne_eqb}
 use lib.Dec.{eqb, ltb}
 use lib.ListN.{length, take, drop, length-drop}
+use lib.Pointwise.{pointwise}
+use Rattle.std.specs.List.{prefix_len}
 use Rattle.yuv_support.proofs.Overlay.{below_or_not}
 use Rattle.sheet_numbers.specs.Read.{begins_with}
+use Rattle.sheet_numbers.proofs.Begins.{starts_begins}
+use Rattle.sheet_numbers.proofs.Optional.{some_met, none_unmet}
 use Rattle.y4m_text.specs.Words.{frame_word}
 use Rattle.std.specs.Prelude.{Option, Some, None}
 use Rattle.y4m_lines.specs.Lines.{before, line_at, is_line, fields, none_empty}
 use Rattle.y4m_lines.specs.Header.{is_frame_line}
 use Rattle.y4m_lines.specs.Read.{line_read, frame_line_read}
-use Rattle.y4m_lines.proofs.Fields.{before_take, before_within}
+use Rattle.y4m_lines.proofs.Fields.{before_take, before_within, before_count}
 
 -- `end` is the number of bytes before the first byte 10 of the `most` that are looked at
 module _ (s : List ℕ) (at : ℕ) {most end : ℕ} (bound : most ≡ min (length s - at) 256)
@@ -44,16 +48,8 @@ module _ (s : List ℕ) (at : ℕ) {most end : ℕ} (bound : most ≡ min (lengt
 
 -- ---- what a caller knows of a line that was read
 
-until : (t : Bool) (a end : ℕ) → cond t (Some a) None ≡ Some end → (t ≡ true) × (end ≡ a)
-until true a end e = (refl, cc)
-until false a end e = let z : ◌≡◌ {A = ℕ} 0 1 = cc in absurd (omega arith)
-
-no_line : (t : Bool) (a : ℕ) → cond t (Some a) None ≡ None → t ≡ false
-no_line true a e = let z : ◌≡◌ {A = ℕ} 0 1 = cc in absurd (omega arith)
-no_line false a e = refl
-
 pub line_none : (s : List ℕ) (at : ℕ) {result : Option ℕ} → result ≡ line_read s at → result ≡ None → is_line s at ≡ false
-line_none s at e m = no_line (is_line s at) (at + length (line_at s at)) (sym e ∙ m)
+line_none s at e m = none_unmet (is_line s at) (at + length (line_at s at)) (sym e ∙ m)
 
 -- the line at a place ends at `end`
 pub record Lined (s : List ℕ) (at end : ℕ) : Type 0 where
@@ -66,7 +62,7 @@ pub record Lined (s : List ℕ) (at end : ℕ) : Type 0 where
 pub lined : (s : List ℕ) (at : ℕ) {end : ℕ} {result : Option ℕ} → result ≡ line_read s at → result ≡ Some end → Lined s at end
 unfolding is_line
 lined s at {end} e m =
-    let u = until (is_line s at) (at + length (line_at s at)) end (sym e ∙ m) in
+    let u = some_met (is_line s at) (at + length (line_at s at)) end (sym e ∙ m) in
     let l : length (line_at s at) < length (drop at s) = ltb-true _ _ ((and-eq-true_iff (ltb (length (line_at s at)) (length (drop at s))) _).0 u.0).0 in
     let n : end - at ≡ length (line_at s at) = omega (arith, u.1) in
     record {
@@ -80,13 +76,13 @@ lined s at {end} e m =
 -- ---- what a caller knows of a frame line that was read
 
 pub frame_missed : (s : List ℕ) (at : ℕ) {result : Option ℕ} → result ≡ frame_line_read s at → result ≡ None → is_frame_line s at ≡ false
-frame_missed s at e m = no_line (is_frame_line s at) (at + length (line_at s at)) (sym e ∙ m)
+frame_missed s at e m = none_unmet (is_frame_line s at) (at + length (line_at s at)) (sym e ∙ m)
 
 pub frame_lined : (s : List ℕ) (at : ℕ) {end : ℕ} {result : Option ℕ} → result ≡ frame_line_read s at → result ≡ Some end
     → (is_frame_line s at ≡ true) × Lined s at end
 unfolding is_frame_line
 frame_lined s at {end} e m =
-    let u = until (is_frame_line s at) (at + length (line_at s at)) end (sym e ∙ m) in
+    let u = some_met (is_frame_line s at) (at + length (line_at s at)) end (sym e ∙ m) in
     let l : is_line s at ≡ true = ((and-eq-true_iff (is_line s at) _).0 u.0).0 in
     let r : Some end ≡ line_read s at = rw (l, u.1) in
     (u.0, lined s at r refl)
@@ -98,6 +94,15 @@ unfolding is_frame_line
 frame_none s at e = rw e
 
 module _ {s : List ℕ} {at end : ℕ} (l : Lined s at end) where
+  -- what is asked of the line's text, by the library's `starts_with`, `find` and `none_empty`
+  pub frame_worded : {b t : Bool}
+      → b ≡ pointwise eqb frame_word (take (length frame_word) (take (end - at) (drop at s))) → b ≡ t
+      → begins_with (line_at s at) frame_word ≡ t
+  frame_worded starts is = rw l.text at (sym (starts_begins (take (end - at) (drop at s)) frame_word refl) ∙ (sym starts ∙ is))
+
+  pub frame_first : {n : ℕ} → n ≡ prefix_len (λ x. not (eqb x 32)) (take (end - at) (drop at s)) → n ≡ length (before 32 (line_at s at))
+  frame_first found = rw l.text at (found ∙ before_count 32 (take (end - at) (drop at s)))
+
   frame_parts : is_frame_line s at ≡ begins_with (line_at s at) frame_word && (eqb (length (before 32 (line_at s at))) 5 && none_empty (fields (line_at s at)))
   unfolding is_frame_line
   frame_parts = rw l.formed

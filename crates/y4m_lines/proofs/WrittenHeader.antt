@@ -10,7 +10,7 @@ use borrow.Author.Tests.{lt-ltb, le-leb, eq-eqb, ne_eqb}
 use lib.Dec.{T, eqb, leb}
 use lib.ListN.{length, length-append}
 use lib.Seq.{drop-append_seam, append_snoc}
-use Rattle.yuv_support.specs.Settings.{among, depths}
+use Rattle.yuv_support.specs.Settings.{among, sampling_of, depths}
 use Rattle.yuv_support.proofs.Depths.{by_depth}
 use Rattle.yuv_support.proofs.Tests.{both, failed}
 use Rattle.sheet_writing.specs.Text.{decimal_text, number_text}
@@ -88,7 +88,7 @@ number_written n most =
 abbrev NameWritten : ℕ → ℕ → Type 0
 NameWritten sampling depth =
     T (free 32 (name_of sampling depth)) × T (free 10 (name_of sampling depth)) × (length (name_of sampling depth) ≤ 7)
-    × (format_of (name_of sampling depth) ≡ format sampling depth)
+    × (format_of (name_of sampling depth) ≡ format (sampling_of sampling) depth)
 
 name_written : (sampling depth : ℕ) → sampling ≤ 1 → T (among depth depths) → NameWritten sampling depth
 unfolding name_of format_of all_below
@@ -104,7 +104,7 @@ pub record HeaderFound (sampling depth width height : ℕ) (s : List ℕ) : Type
   pub formed : is_header s ≡ true
   pub width_is : width_of s ≡ width
   pub height_is : height_of s ≡ height
-  pub format_is : format_in s ≡ format sampling depth
+  pub format_is : format_in s ≡ format (sampling_of sampling) depth
   pub past_is : past_line s 0 ≡ length (header_text sampling depth width height)
 
 abbrev header_line : ℕ → ℕ → ℕ → ℕ → List ℕ

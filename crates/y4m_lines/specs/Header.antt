@@ -3,8 +3,10 @@
 use Rattle.std.specs.Prelude.{ℕ, Bool, true, false, cond, ◌&&◌, List, [], ◌∷◌, ◌++◌, eqb, leb, length, Option, Some, None}
 use Rattle.sheet_numbers.specs.Numbers.{byte_at, is_digit, decimal, all_below}
 use Rattle.sheet_numbers.specs.Read.{begins_with}
+use Rattle.yuv_support.specs.declared.YuvChromaSubsampling.{YuvChromaSubsampling}
+use Rattle.yuv_support.specs.declared.YuvChromaSubsampling.TheVariants.{Yuv420, Yuv422}
+use Rattle.y4m_text.specs.declared.Format.{Format}
 use Rattle.y4m_text.specs.Words.{header_word, frame_word, c420jpeg, c422, c420p10, c422p10, c420p12, c422p12}
-use Rattle.y4m_lines.specs.declared.Format.{Format}
 use Rattle.y4m_lines.specs.Lines.{before, line_at, is_line, fields, none_empty}
 
 -- ---- fields by their first byte
@@ -43,18 +45,18 @@ side_of (text ∷ more) = decimal text 0 (length text)
 abbrev pub same_text : List ℕ → List ℕ → Bool
 same_text a b = eqb (length a) (length b) && begins_with a b
 
-abbrev pub format : ℕ → ℕ → Format
+abbrev pub format : YuvChromaSubsampling → ℕ → Format
 format sampling depth = record { sampling = sampling; depth = depth }
 
--- the sampling's code and the depth that a name stands for; another name has the depth 0, which no stream has
+-- the sampling and the depth that a name stands for; another name has the depth 0, which no stream has
 unfoldable pub format_of : List ℕ → Format
 format_of name =
-    cond (same_text name c420jpeg) (format 0 8)
-    (cond (same_text name c422) (format 1 8)
-    (cond (same_text name c420p10) (format 0 10)
-    (cond (same_text name c422p10) (format 1 10)
-    (cond (same_text name c420p12) (format 0 12)
-    (cond (same_text name c422p12) (format 1 12) (format 0 0))))))
+    cond (same_text name c420jpeg) (format Yuv420 8)
+    (cond (same_text name c422) (format Yuv422 8)
+    (cond (same_text name c420p10) (format Yuv420 10)
+    (cond (same_text name c422p10) (format Yuv422 10)
+    (cond (same_text name c420p12) (format Yuv420 12)
+    (cond (same_text name c422p12) (format Yuv422 12) (format Yuv420 0))))))
 
 -- the format that these make; none at the depth 0
 abbrev pub known_format : Format → Option Format
@@ -68,7 +70,7 @@ is_colour (name ∷ second ∷ more) = false
 
 -- "is 420jpeg if absent"
 unfoldable pub colour_of : List (List ℕ) → Format
-colour_of [] = format 0 8
+colour_of [] = format Yuv420 8
 colour_of (name ∷ more) = format_of name
 
 -- ---- the two lines

@@ -1,8 +1,10 @@
 -- What the reading functions answer, by the definitions of Lines and Header.
 -- Definitions only.
-use Rattle.std.specs.Prelude.{ℕ, ◌+◌, min, cond, List, length, Option, Some, None, Result, Ok, Err}
+use Rattle.std.specs.Prelude.{◌≡◌, ℕ, ◌+◌, ◌≤◌, min, cond, List, length, Option, Some, None, Result, Ok, Err, MatchResult}
+use Rattle.std.specs.Option.{option_copied, option_to_list}
+use denote.Ref.{Bor}
 use Rattle.sheet_numbers.specs.Numbers.{decimal}
-use Rattle.y4m_lines.specs.declared.Format.{Format}
+use Rattle.y4m_text.specs.declared.Format.{Format}
 use Rattle.y4m_lines.specs.declared.Header.{Header}
 use Rattle.y4m_lines.specs.declared.Repeated.{Repeated}
 use Rattle.y4m_lines.specs.Lines.{line_at, is_line, past_line}
@@ -21,6 +23,10 @@ capped n = min n 16385
 
 abbrev pub number_read : List ℕ → Option ℕ
 number_read text = cond (is_number text) (Some (capped (decimal text 0 (length text)))) None
+
+-- the text of the only field of a letter, where there is one; `texts` are those of all of them
+abbrev pub FieldRead : List (List ℕ) → Result (Option (Bor (List ℕ))) Repeated → Type 0
+FieldRead texts result = MatchResult result (λ text. texts ≡ option_to_list (option_copied text)) (λ e. 2 ≤ length texts)
 
 abbrev pub side_read : List (List ℕ) → Option ℕ
 side_read texts = cond (is_side texts) (Some (capped (side_of texts))) None

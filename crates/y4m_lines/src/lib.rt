@@ -1,22 +1,20 @@
 // The two kinds of lines of a YUV4MPEG2 stream, the header and the frame line, as they are read.
+// A text and a place in it stay two parameters: the definitions count places from the begin.
+// The six names of C are here and in y4m_text: here a name is looked up and may be none of them,
+// there a format has its name; one table, searched from either end, would be no plainer.
 #![tactic(auto)]
 
-ghost use Rattle.std.specs.Prelude.{◌≡◌, ◌≤◌, ◌==◌, not, length, MatchResult};
+ghost use Rattle.std.specs.Prelude.{◌≡◌, ◌≤◌, ◌==◌, not, length};
 ghost use Rattle.std.specs.List.{prefix_len};
-ghost use Rattle.std.specs.Option.{option_copied, option_to_list};
 ghost use Rattle.y4m_lines.specs.Lines.{fields, none_empty};
-ghost use Rattle.y4m_lines.specs.Header.{same_text, named, format_of, known_format};
-ghost use Rattle.y4m_lines.specs.Read.{line_read, frame_line_read, capped, number_read, side_read, colour_read, header_read};
+ghost use Rattle.y4m_lines.specs.Header.{named, format_of, known_format};
+ghost use Rattle.y4m_lines.specs.Read.{line_read, frame_line_read, capped, number_read, FieldRead, side_read, colour_read, header_read};
 
-// The sampling's code and the depth. The sampling stays a code: the C record and the definitions of a frame's places hold the code.
-#[derive(Clone, Copy)]
-pub struct Format {
-    pub sampling: u32,
-    pub depth: u32,
-}
+use y4m_text::Format;
+use yuv_support::YuvChromaSubsampling;
 
-// What a header says, and the place after it. The format is missing where C has a name that is not known; 16,385 stands for every larger side,
-// since all of them are refused alike.
+// What a header says, and the place after it. The format is missing where C has a name that is
+// not known; 16,385 is told for every larger side, since all of them are refused alike.
 #[derive(Clone, Copy)]
 pub struct Header {
     pub width: u32,
@@ -29,7 +27,8 @@ pub struct Header {
 #[derive(Clone, Copy)]
 struct Repeated;
 
-// How many bytes stand before the first such byte, or all where there is none.
+// How many bytes come before the first such byte, or all where there is none. A number and no
+// `Option`: the definitions count the bytes before it, and both callers compare the count.
 fn find(text: &[u8], byte: u8) -> usize
     ensures { result ≡ prefix_len (λ x. not (x == byte)) text.now }
 {
@@ -53,17 +52,12 @@ fn line_at(s: &[u8], at: usize) -> Option<usize>
 fn none_empty(line: &[u8]) -> bool
     ensures { result ≡ none_empty (fields line.now) }
 {
-    for field in line.split(|b| *b == b' ') {
-        if field.is_empty() {
-            return false;
-        }
-    }
-    true
+    line.split(|b| *b == b' ').all(|field| !field.is_empty())
 }
 
 // What follows the letter in the only field of a line that begins with it, if there is one.
 fn find_field(line: &[u8], letter: u8) -> Result<Option<&[u8]>, Repeated>
-    ensures { MatchResult result (λ text. named letter (fields line.now) ≡ option_to_list (option_copied text)) (λ _. 2 ≤ length (named letter (fields line.now))) }
+    ensures { FieldRead (named letter (fields line.now)) result }
 {
     let mut found = None;
     for field in line.split(|b| *b == b' ') {
@@ -106,17 +100,7 @@ fn read_number(text: &[u8]) -> Option<u32>
 fn read_side(line: &[u8], letter: u8) -> Option<u32>
     ensures { result ≡ side_read (named letter (fields line.now)) }
 {
-    match find_field(line, letter) {
-        Ok(Some(text)) => read_number(text),
-        Ok(None) => None,
-        Err(_) => None,
-    }
-}
-
-fn is_text(a: &[u8], b: &[u8]) -> bool
-    ensures { result ≡ same_text a.now b.now }
-{
-    a == b
+    read_number(find_field(line, letter).ok()??)
 }
 
 // The format that a name of C stands for.
@@ -124,56 +108,31 @@ fn is_text(a: &[u8], b: &[u8]) -> bool
 fn format_of(name: &[u8]) -> Option<Format>
     ensures { result ≡ known_format (format_of name.now) }
 {
-    if is_text(name, b"420jpeg") {
-        return Some(Format {
-            sampling: 0,
-            depth: 8,
-        });
-    }
-    if is_text(name, b"422") {
-        return Some(Format {
-            sampling: 1,
-            depth: 8,
-        });
-    }
-    if is_text(name, b"420p10") {
-        return Some(Format {
-            sampling: 0,
-            depth: 10,
-        });
-    }
-    if is_text(name, b"422p10") {
-        return Some(Format {
-            sampling: 1,
-            depth: 10,
-        });
-    }
-    if is_text(name, b"420p12") {
-        return Some(Format {
-            sampling: 0,
-            depth: 12,
-        });
-    }
-    if is_text(name, b"422p12") {
-        return Some(Format {
-            sampling: 1,
-            depth: 12,
-        });
-    }
-    None
+    let names: [(&[u8], YuvChromaSubsampling, u32); 6] = [
+        (b"420jpeg", YuvChromaSubsampling::Yuv420, 8),
+        (b"422", YuvChromaSubsampling::Yuv422, 8),
+        (b"420p10", YuvChromaSubsampling::Yuv420, 10),
+        (b"422p10", YuvChromaSubsampling::Yuv422, 10),
+        (b"420p12", YuvChromaSubsampling::Yuv420, 12),
+        (b"422p12", YuvChromaSubsampling::Yuv422, 12),
+    ];
+    let known = names.iter().find(|known| name == known.0)?;
+    Some(Format {
+        sampling: known.1,
+        depth: known.2,
+    })
 }
 
 // C of a header line, which is 420jpeg where it is absent.
 fn read_colour(line: &[u8]) -> Result<Option<Format>, Repeated>
     ensures { result ≡ colour_read (named 67 (fields line.now)) }
 {
-    match find_field(line, b'C') {
-        Ok(Some(name)) => Ok(format_of(name)),
-        Ok(None) => Ok(Some(Format {
-            sampling: 0,
+    match find_field(line, b'C')? {
+        Some(name) => Ok(format_of(name)),
+        None => Ok(Some(Format {
+            sampling: YuvChromaSubsampling::Yuv420,
             depth: 8,
         })),
-        Err(repeated) => Err(repeated),
     }
 }
 
@@ -191,9 +150,7 @@ pub fn read_header(s: &[u8]) -> Option<Header>
     }
     let width = read_side(line, b'W')?;
     let height = read_side(line, b'H')?;
-    let Ok(format) = read_colour(line) else {
-        return None;
-    };
+    let format = read_colour(line).ok()?;
     Some(Header {
         width,
         height,

@@ -1,8 +1,15 @@
 -- Document 02, slip 2: the two lines that are written.
 -- Definitions only.
 use Rattle.std.specs.Prelude.{ℕ, cond, List, [], ◌∷◌, ◌++◌, eqb}
+use Rattle.yuv_support.specs.declared.YuvChromaSubsampling.{YuvChromaSubsampling}
+use Rattle.yuv_support.specs.declared.YuvChromaSubsampling.TheVariants.{Yuv420, Yuv422}
 use Rattle.sheet_writing.specs.Text.{decimal_text}
 use Rattle.y4m_text.specs.Words.{header_word, frame_word, c420jpeg, c422, c420p10, c422p10, c420p12, c422p12}
+
+-- the code of a sampling
+abbrev pub code_of : YuvChromaSubsampling → ℕ
+code_of Yuv420 = 0
+code_of Yuv422 = 1
 
 -- the name of C, by the sampling's code and the depth
 unfoldable pub name_of : ℕ → ℕ → List ℕ

@@ -28,14 +28,21 @@ impl TryFrom<u64> for Kind {
     }
 }
 
-// Strides and lengths are those of Y, U and V.
+// A plane that is lent: its stride, and how many elements it has.
+#[derive(Clone, Copy)]
+struct Room {
+    stride: u32,
+    length: usize,
+}
+
 #[derive(Clone, Copy)]
 pub struct Call<'a> {
     kind: Kind,
     stream: &'a [u8],
     place: u64,
-    strides: [u32; 3],
-    lengths: [usize; 3],
+    y: Room,
+    u: Room,
+    v: Room,
     answer: Y4mFrame,
 }
 
@@ -48,8 +55,19 @@ impl<'a> Call<'a> {
         let kind = Kind::try_from(list.u64()?)?;
         let stream_length = list.size()?;
         let place = list.u64()?;
-        let strides = [list.u32()?, list.u32()?, list.u32()?];
-        let lengths = [list.size()?, list.size()?, list.size()?];
+        let [y_stride, u_stride, v_stride] = [list.u32()?, list.u32()?, list.u32()?];
+        let y = Room {
+            stride: y_stride,
+            length: list.size()?,
+        };
+        let u = Room {
+            stride: u_stride,
+            length: list.size()?,
+        };
+        let v = Room {
+            stride: v_stride,
+            length: list.size()?,
+        };
         let answer = Y4mFrame {
             number: list.u64()?,
             expected: list.u64()?,
@@ -66,8 +84,9 @@ impl<'a> Call<'a> {
             kind,
             stream,
             place,
-            strides,
-            lengths,
+            y,
+            u,
+            v,
             answer,
         })
     }
@@ -78,25 +97,23 @@ impl<'a> Call<'a> {
         alloc: Global,
         list: &mut List<'_>,
     ) -> io::Result<bool> {
-        let [y_length, u_length, v_length] = self.lengths;
-        let mut y = vec![in alloc; S::from(KEPT); y_length]?;
-        let mut u = vec![in alloc; S::from(KEPT); u_length]?;
-        let mut v = vec![in alloc; S::from(KEPT); v_length]?;
-        let [y_stride, u_stride, v_stride] = self.strides;
+        let mut y = vec![in alloc; S::from(KEPT); self.y.length]?;
+        let mut u = vec![in alloc; S::from(KEPT); self.u.length]?;
+        let mut v = vec![in alloc; S::from(KEPT); self.v.length]?;
         let answer = y4m::read(
             self.stream,
             self.place,
             PlaneMut {
                 elements: &mut y,
-                stride: y_stride,
+                stride: self.y.stride,
             },
             PlaneMut {
                 elements: &mut u,
-                stride: u_stride,
+                stride: self.u.stride,
             },
             PlaneMut {
                 elements: &mut v,
-                stride: v_stride,
+                stride: self.v.stride,
             },
         );
         let y_same = list.has_plane(&y)?;

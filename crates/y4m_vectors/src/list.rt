@@ -20,9 +20,8 @@ impl<'a> List<'a> {
 
     // The next n bytes.
     pub fn take(&mut self, n: usize) -> io::Result<&'a [u8]> {
-        let Some((first, rest)) = self.rest.split_at_checked(n) else {
-            return Err(Error::from(ErrorKind::UnexpectedEof));
-        };
+        let parts = self.rest.split_at_checked(n);
+        let (first, rest) = parts.ok_or_else(|| Error::from(ErrorKind::UnexpectedEof))?;
         self.rest = rest;
         Ok(first)
     }
@@ -46,10 +45,7 @@ impl<'a> List<'a> {
     }
 
     pub fn u32(&mut self) -> io::Result<u32> {
-        match u32::try_from(self.number(8)?) {
-            Ok(number) => Ok(number),
-            Err(_) => Err(Error::from(ErrorKind::InvalidData)),
-        }
+        u32::try_from(self.number(8)?).map_err(|_| Error::from(ErrorKind::InvalidData))
     }
 
     // Whether the next elements are those of a plane.

@@ -20,6 +20,7 @@ use std::io::Read;
 // For each call of the list, whether it is answered as the list says.
 fn replay(alloc: Global, mut list: List<'_>) -> io::Result<Vec<bool>> {
     let mut answers = Vec::new(alloc);
+    // A `for` over at most 2^64 - 1 calls and no `while`: no contract of `Call::read` says that the list gets shorter, so that a `while` ends.
     for _ in 0..u64::MAX {
         if list.is_empty() {
             break;

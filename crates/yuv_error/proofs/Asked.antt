@@ -1,7 +1,8 @@
 -- The error of the first question that gets a "no", told by its numbers, is the verdict.
 -- Assumes nothing.
-use Rattle.std.proofs.Common.{◌≡◌, refl, sym, Bool, true, false, List, [], ◌∷◌, ◌++◌, cond, Err}
+use Rattle.std.proofs.Common.{◌≡◌, refl, sym, Bool, true, false, List, [], ◌∷◌, ◌++◌, cond, Result, Ok, Err, IfOk}
 use Rattle.yuv_support.specs.Questions.{Question, verdict}
+use Rattle.yuv_error.specs.declared.error.YuvError.{YuvError}
 use Rattle.yuv_error.specs.Told.{told, answered, answered_or}
 use Rattle.yuv_error.specs.Asked.{error_of, asked, giving, Precedes}
 
@@ -31,3 +32,8 @@ asked_answered x (q ∷ qs) h = go q.holds (asked_answered x qs h.1)
         ≡ cond b (verdict qs) (record { number = q.number; expected = q.expected; received = q.received })
     go true e = e
     go false e = h.0
+
+-- what an accepted call gives
+pub gives : {T : Type 0} (a : Result (Unit {0}) YuvError) (x : T) {r : Result T YuvError} → r ≡ giving a x → IfOk r (λ y. y ≡ x)
+gives (Ok u) x e = rw e refl
+gives (Err why) x e = rw e tt

@@ -4,6 +4,7 @@ ghost use Rattle.yuv_support.specs.Questions.{extent, sides, needed, at_least, d
 ghost use Rattle.yuv_error.specs.Asked.{named, asked, first_question};
 
 use crate::error::{MismatchedSize, YuvError};
+use sample::plane::{Plane, Size};
 
 // A buffer as the questions see it: how many elements it has, and how many from the begin of a row to that of the next.
 #[derive(Clone, Copy, Debug, PartialEq, Eq)]
@@ -20,16 +21,19 @@ pub enum Channel {
     V,
 }
 
-pub fn buffer_of<T: Copy>(elements: &[T], stride: u32) -> Buffer
-    ensures { result ≡ record { length = length elements.now; stride = stride } }
-{
-    Buffer {
-        length: elements.len() as u64,
-        stride,
+impl<'a, T: Copy> From<Plane<'a, T>> for Buffer {
+    ghost from_gives = { λ plane buffer.
+        buffer ≡ record { length = length plane.elements.now; stride = plane.stride } };
+
+    fn from(plane: Plane<'a, T>) -> Buffer {
+        Buffer {
+            length: plane.elements.len() as u64,
+            stride: plane.stride,
+        }
     }
 }
 
-// One question: its error where it gets a "no".
+// One question: its error where it gets a "no". `holds` is a flag: what a comparison gives, turned into a result here.
 pub fn ask(holds: bool, error: YuvError) -> Result<(), YuvError>
     ensures { result ≡ cond holds (Ok tt) (Err error) }
 {
@@ -44,22 +48,25 @@ fn sizes(expected: u64, received: u64) -> MismatchedSize
 
 // Questions 3 and 4.
 #[tactic(auto, unfolding(crate::specs::Asked::asked))]
-pub fn check_sides(width: u32, height: u32) -> Result<(), YuvError>
-    ensures answer { result ≡ asked (sides width height) }
-    ensures width_least { IfOk result (λ _. 1 ≤ width) }
-    ensures height_least { IfOk result (λ _. 1 ≤ height) }
-    ensures width_most { IfOk result (λ _. width ≤ 16384) }
-    ensures height_most { IfOk result (λ _. height ≤ 16384) }
+pub fn check_sides(size: Size) -> Result<(), YuvError>
+    ensures answer { result ≡ asked (sides size.width size.height) }
+    ensures width_least { IfOk result (λ _. 1 ≤ size.width) }
+    ensures height_least { IfOk result (λ _. 1 ≤ size.height) }
+    ensures width_most { IfOk result (λ _. size.width ≤ 16384) }
+    ensures height_most { IfOk result (λ _. size.height ≤ 16384) }
 {
-    ask(width >= 1 && height >= 1, YuvError::ZeroBaseSize)?;
-    ask(width <= 16384 && height <= 16384, YuvError::PointerOverflow)
+    ask(size.width >= 1 && size.height >= 1, YuvError::ZeroBaseSize)?;
+    ask(
+        size.width <= 16384 && size.height <= 16384,
+        YuvError::PointerOverflow,
+    )
 }
 
-// stride·(height − 1) + row: the elements that `height` rows of `row` elements need.
-fn needed_length(stride: u32, row: u32, height: u32) -> u64
-    ensures { result ≡ needed stride row height }
+// stride·(height − 1) + width: the elements that `height` rows of `width` elements need.
+fn needed_length(stride: u32, size: Size) -> u64
+    ensures { result ≡ needed stride size.width size.height }
 {
-    stride as u64 * height.saturating_sub(1) as u64 + row as u64
+    stride as u64 * size.height.saturating_sub(1) as u64 + size.width as u64
 }
 
 // a·b, which fits 64 bits.
@@ -81,22 +88,24 @@ pub fn check_output(received: u64, expected: u64) -> Result<(), YuvError>
     )
 }
 
-// Questions 5 and 6 of a destination, `row` being width·channels: the length, then the stride.
+// Questions 5 and 6 of a destination, whose size is width·channels and the height: the length, then the stride.
 #[tactic(auto, unfolding(crate::specs::Asked::asked))]
-pub fn check_rgba_destination(rgb: Buffer, row: u32, height: u32) -> Result<(), YuvError>
-    ensures answer { result ≡ asked (destination (extent rgb.length rgb.stride) row height) }
-    ensures fits { IfOk result (λ _. needed rgb.stride row height ≤ rgb.length) }
-    ensures wide { IfOk result (λ _. row ≤ rgb.stride) }
+pub fn check_rgba_destination(rgb: Buffer, size: Size) -> Result<(), YuvError>
+    ensures answer { result
+        ≡ asked (destination (extent rgb.length rgb.stride) size.width size.height) }
+    ensures fits { IfOk result (λ _. needed rgb.stride size.width size.height ≤ rgb.length) }
+    ensures wide { IfOk result (λ _. size.width ≤ rgb.stride) }
 {
-    let needed = needed_length(rgb.stride, row, height);
+    let needed = needed_length(rgb.stride, size);
     let short = YuvError::DestinationSizeMismatch(sizes(needed, rgb.length));
     ask(needed <= rgb.length, short)?;
-    let narrow = YuvError::MinimumStrideSizeMismatch(sizes(row as u64, rgb.stride as u64));
-    ask(row <= rgb.stride, narrow)
+    let wide = sizes(size.width as u64, rgb.stride as u64);
+    let narrow = YuvError::MinimumStrideSizeMismatch(wide);
+    ask(size.width <= rgb.stride, narrow)
 }
 
 impl Channel {
-    // The error of a plane whose stride is less than its row.
+    // The error of a plane whose stride is less than its row. By a match, as `short` is: each plane has a case of its own in `YuvError`, as in the source.
     fn narrow(self, size: MismatchedSize) -> YuvError
         ensures { result ≡ named (first_question self) size }
     {
@@ -118,18 +127,22 @@ impl Channel {
         }
     }
 
-    // The two questions of the plane: 7 and 8 of Y, 9 and 10 of U, 11 and 12 of V. The sides are the plane's own.
+    // The two questions of the plane: 7 and 8 of Y, 9 and 10 of U, 11 and 12 of V. The size is the plane's own.
     #[tactic(auto, unfolding(crate::specs::Asked::asked))]
-    pub fn check(self, buffer: Buffer, width: u32, height: u32) -> Result<(), YuvError>
+    pub fn check(self, buffer: Buffer, size: Size) -> Result<(), YuvError>
         ensures answer { result
             ≡ asked (plane (first_question self)
-            (extent buffer.length buffer.stride) width height) }
-        ensures fits { IfOk result (λ _. needed buffer.stride width height ≤ buffer.length) }
-        ensures wide { IfOk result (λ _. width ≤ buffer.stride) }
+            (extent buffer.length buffer.stride) size.width size.height) }
+        ensures fits { IfOk result (λ _. needed buffer.stride size.width size.height
+            ≤ buffer.length) }
+        ensures wide { IfOk result (λ _. size.width ≤ buffer.stride) }
     {
-        let size = sizes(product(width, height), product(buffer.stride, height));
-        let least = needed_length(buffer.stride, width, height);
-        ask(width <= buffer.stride, self.narrow(size))?;
+        let area = sizes(
+            product(size.width, size.height),
+            product(buffer.stride, size.height),
+        );
+        let least = needed_length(buffer.stride, size);
+        ask(size.width <= buffer.stride, self.narrow(area))?;
         ask(
             least <= buffer.length,
             self.short(sizes(least, buffer.length)),

@@ -13,7 +13,7 @@ pub struct MismatchedSize {
     pub received: u64,
 }
 
-// The question that got the first "no".
+// The question that got the first "no". Some cases have sizes and some none, as in the source.
 #[derive(Clone, Copy, Debug, PartialEq, Eq)]
 pub enum YuvError {
     // 1, where the source panics

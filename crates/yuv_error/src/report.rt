@@ -1,4 +1,5 @@
 // The numbers that an answer is handed out by: number, expected and received of an error, and three zeros where the call is accepted.
+// `told_of`, `report_of` and `band_report_of` are functions and no `From`: an answer is told in several records, and the name says in which.
 ghost use Rattle.std.specs.Prelude.{◌≡◌, ◌+◌, ◌<◌, ◌^◌};
 ghost use Rattle.yuv_support.specs.Counts.{unclipped};
 ghost use Rattle.yuv_support.specs.Questions.{accepted};
@@ -71,6 +72,7 @@ fn mismatched(number: u64, size: MismatchedSize) -> Told
 impl From<YuvError> for Told {
     ghost from_gives = { λ e t. t ≡ as_told (told e) };
 
+    // A number for each case, written out: document 01 numbers the questions, with gaps, and `told` says the same by cases.
     fn from(e: YuvError) -> Told {
         match e {
             YuvError::UnknownSampling => refused(1),
@@ -148,8 +150,8 @@ fn placed(told: Told, band: Band, first: u32) -> BandReport
     }
 }
 
-// The answer of a call that leaves nothing but its answer.
-pub fn told_of(answer: Result<(), YuvError>) -> Told
+// The numbers of an answer, whatever an accepted call leaves. By a match: its two cases are those of `answered`.
+pub fn told_of<T: Drop>(answer: Result<T, YuvError>) -> Told
     ensures { result ≡ as_told (answered answer) }
 {
     match answer {
@@ -158,7 +160,7 @@ pub fn told_of(answer: Result<(), YuvError>) -> Told
     }
 }
 
-// The same, with the counts of a call that converts nothing.
+// The answer of a call that converts nothing.
 pub fn answer_alone(answer: Result<(), YuvError>) -> Report
     ensures { result ≡ as_report (answered answer) unclipped }
 {
@@ -169,10 +171,7 @@ pub fn answer_alone(answer: Result<(), YuvError>) -> Report
 pub fn report_of(answer: Result<Clipped, YuvError>) -> Report
     ensures { result ≡ as_report (answered answer) (clipped_of answer) }
 {
-    match answer {
-        Ok(clipped) => counted(refused(0), clipped),
-        Err(e) => counted(Told::from(e), unclipped()),
-    }
+    counted(told_of(answer), answer.unwrap_or(unclipped()))
 }
 
 // The answer of a band from row `first` on; a refused one writes no row and clips nothing, and the next first row is its own.
@@ -180,14 +179,9 @@ pub fn band_report_of(answer: Result<Band, YuvError>, first: u32) -> BandReport
     ensures { result
         ≡ as_band_report (answered answer) (band_clipped_of answer) first (rows_of answer) }
 {
-    match answer {
-        Ok(band) => placed(refused(0), band, first),
-        Err(e) => {
-            let nothing = Band {
-                rows: 0,
-                clipped: unclipped(),
-            };
-            placed(Told::from(e), nothing, first)
-        }
-    }
+    let nothing = Band {
+        rows: 0,
+        clipped: unclipped(),
+    };
+    placed(told_of(answer), answer.unwrap_or(nothing), first)
 }

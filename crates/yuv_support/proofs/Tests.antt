@@ -33,7 +33,3 @@ four a b c d h = let u = both a (b && (c && d)) h in let v = three b c d u.1 in 
 pub either : (a b : Bool) → T a → T (a || b)
 either true b h = h
 either false b h = absurd h
-
-pub or_false : (t : Bool) → t ≡ (t || false)
-or_false true = refl
-or_false false = refl

@@ -1,5 +1,5 @@
 // The settings of a conversion as types: range, matrix, sampling, channel order, packing and mode, the two weights, the five coefficients.
-// Codes are decoded here and nowhere else. The definitions of a conversion stand in specs/, one module to a subject; those of the answers'
+// Codes are decoded here, except that of a chroma plane, which is decoded in `images`. The definitions of a conversion stand in specs/, one module to a subject; those of the answers'
 // numbers, the settings used, the readers and the sheet in the specs of their own crates.
 #![tactic(auto)]
 
@@ -19,7 +19,7 @@ pub enum YuvRange {
     Full,
 }
 
-// Six matrices by name, and one that carries its own two weights.
+// Six matrices by name, and one that carries its own two weights: the form that document 01 fixes.
 #[derive(Clone, Copy, Debug, PartialEq)]
 pub enum YuvStandardMatrix {
     Bt601,
@@ -154,7 +154,8 @@ pub struct Clipped {
     pub above: u32,
 }
 
-// ---- what a code stands for that the questions let through; any other has the last meaning, which is never used
+// ---- what a code stands for that the questions let through; any other has the last meaning, which is never used. These are
+// public functions that cannot fail, and stay beside `TryFrom`: what is public promises no less than it did.
 
 pub fn sampling_of(code: u32) -> YuvChromaSubsampling
     ensures { result ≡ sampling_of code }
@@ -182,6 +183,7 @@ pub fn matrix_of(code: u32, kr: f32, kb: f32) -> YuvStandardMatrix
     ))
 }
 
+// By a match of its own: `try_from` asks the depth too.
 pub fn packing_of(code: u32) -> YuvBytesPacking
     ensures { result ≡ packing_of code }
 {
@@ -212,14 +214,16 @@ pub fn decode(codes: Codes) -> Settings
     }
 }
 
-// Whether a depth is one of 8, 10 and 12.
+// Whether a depth is one of 8, 10 and 12: a number and no enum, since samples and ranges are computed from it.
+// No ghost field or invariant says that a depth is known: it is one named fact, `among depth depths`, of a number that C hands over, and
+// `Settings` has the depths of refused calls too.
 pub fn is_depth(depth: u32) -> bool
     ensures { result ≡ among depth depths }
 {
-    depth == 8 || depth == 10 || depth == 12
+    matches!(depth, 8 | 10 | 12)
 }
 
-// The last packing that is known at a depth: a byte has no high bits to spare.
+// The last packing that is known at a depth, a code as those that are asked: a byte has no high bits to spare.
 pub fn last_packing(depth: u32) -> u32
     ensures { result ≡ last_packing depth }
 {

@@ -1,43 +1,35 @@
-use mathlib.Core.Path.{◌∙◌}
-use Rattle.yuv_support.specs.Picture.{letters_of, channels_of}
-use Rattle.yuv_support.proofs.Picture.{channels_rgb, channels_rgba, channels_bgra, channels_bgr}
-use Rattle.kernel.specs.Kernels.{red_first}
-use Rattle.kernel.specs.Ordered.{ordered_value, ordered_clipped}
-use Rattle.kernel.proofs.Ordered.{u_first, v_first}
+use Rattle.blocks.proofs.Room.{scratch_fits}
+use Rattle.convert.proofs.Samples.{three, four, source_fits, source_row, source_counts}
 use Rattle.convert.proofs.interpolate_row.Goals as goal
 
-pub interpolate-requires-clause-fits : goal.interpolate-requires-clause-fits
-interpolate-requires-clause-fits g c = v_first 3 (rw c.in-Rgb.is channels_rgb) c.requires.fits
+pub interpolate-requires : goal.interpolate-requires
+interpolate-requires g c =
+    let e = c.arranged-source.ensures in
+    let fits = source_fits g.S.Sample.numbers g.S.Sample.number c.args.s c.args.width c.args.samples.now c.arranged-source.result c.tail_at.result c.cr_tail_at.result e.luma e.chroma (three c.in-Rgb.is) c.requires.fits in
+    (scratch_fits _ _ g.met.S.Sample.aligned g.met.S.Sample.small, (c.requires.kernel, fits))
 
-pub interpolate-requires-in-Rgba-clause-fits : goal.interpolate-requires-in-Rgba-clause-fits
-interpolate-requires-in-Rgba-clause-fits g c = v_first 4 (rw c.in-Rgba.is channels_rgba) c.requires.fits
+pub interpolate-requires-in-Rgba : goal.interpolate-requires-in-Rgba
+interpolate-requires-in-Rgba g c =
+    let e = c.arranged-source.ensures in
+    let fits = source_fits g.S.Sample.numbers g.S.Sample.number c.args.s c.args.width c.args.samples.now c.arranged-source.result c.tail_at.result c.cr_tail_at.result e.luma e.chroma (four c.in-Rgba.is) c.requires.fits in
+    (scratch_fits _ _ g.met.S.Sample.aligned g.met.S.Sample.small, (c.requires.kernel, fits))
 
-pub interpolate-requires-in-Bgra-clause-fits : goal.interpolate-requires-in-Bgra-clause-fits
-interpolate-requires-in-Bgra-clause-fits g c = u_first 4 (rw c.in-Bgra.is channels_bgra) c.requires.fits
+pub returns-in-Rgb-clause-row : goal.returns-in-Rgb-clause-row
+returns-in-Rgb-clause-row g c =
+    let e = c.arranged-source.ensures in
+    source_row g.S.Sample.numbers g.S.Sample.number c.args.s c.args.width c.args.samples.now c.arranged-source.result c.tail_at.result c.cr_tail_at.result e.luma e.chroma (three c.in-Rgb.is) c.div_ceil-last.ensures c.tail_at.ensures c.cr_tail_at.ensures c.args.k c.args.row.now c.interpolate.ensures.row
 
-pub interpolate-requires-in-Bgr-clause-fits : goal.interpolate-requires-in-Bgr-clause-fits
-interpolate-requires-in-Bgr-clause-fits g c = u_first 3 (rw c.in-Bgr.is channels_bgr) c.requires.fits
+pub returns-in-Rgb-clause-counts : goal.returns-in-Rgb-clause-counts
+returns-in-Rgb-clause-counts g c =
+    let e = c.arranged-source.ensures in
+    source_counts g.S.Sample.numbers g.S.Sample.number c.args.s c.args.width c.args.samples.now c.arranged-source.result c.tail_at.result c.cr_tail_at.result e.luma e.chroma (three c.in-Rgb.is) c.div_ceil-last.ensures c.tail_at.ensures c.cr_tail_at.ensures c.args.k c.interpolate.ensures.counts
 
-pub returns-in-Rgb : goal.returns-in-Rgb
-unfolding ordered_value ordered_clipped red_first channels_of letters_of
-returns-in-Rgb g c =
-    let told = c.interpolate.ensures in
-    rw c.in-Rgb.is record { row = told.row ∙ rw (c.cr_tail_at.ensures, c.tail_at.ensures); counts = told.counts ∙ rw (c.cr_tail_at.ensures, c.tail_at.ensures); room = told.room }
+pub returns-in-Rgba-clause-row : goal.returns-in-Rgba-clause-row
+returns-in-Rgba-clause-row g c =
+    let e = c.arranged-source.ensures in
+    source_row g.S.Sample.numbers g.S.Sample.number c.args.s c.args.width c.args.samples.now c.arranged-source.result c.tail_at.result c.cr_tail_at.result e.luma e.chroma (four c.in-Rgba.is) c.div_ceil-last.ensures c.tail_at.ensures c.cr_tail_at.ensures c.args.k c.args.row.now c.interpolate-in-Rgba.ensures.row
 
-pub returns-in-Rgba : goal.returns-in-Rgba
-unfolding ordered_value ordered_clipped red_first channels_of letters_of
-returns-in-Rgba g c =
-    let told = c.interpolate-in-Rgba.ensures in
-    rw c.in-Rgba.is record { row = told.row ∙ rw (c.cr_tail_at.ensures, c.tail_at.ensures); counts = told.counts ∙ rw (c.cr_tail_at.ensures, c.tail_at.ensures); room = told.room }
-
-pub returns-in-Bgra : goal.returns-in-Bgra
-unfolding ordered_value ordered_clipped red_first channels_of letters_of
-returns-in-Bgra g c =
-    let told = c.interpolate-in-Bgra.ensures in
-    rw c.in-Bgra.is record { row = told.row ∙ rw (c.cr_tail_at.ensures, c.tail_at.ensures); counts = told.counts ∙ rw (c.cr_tail_at.ensures, c.tail_at.ensures); room = told.room }
-
-pub returns-in-Bgr : goal.returns-in-Bgr
-unfolding ordered_value ordered_clipped red_first channels_of letters_of
-returns-in-Bgr g c =
-    let told = c.interpolate-in-Bgr.ensures in
-    rw c.in-Bgr.is record { row = told.row ∙ rw (c.cr_tail_at.ensures, c.tail_at.ensures); counts = told.counts ∙ rw (c.cr_tail_at.ensures, c.tail_at.ensures); room = told.room }
+pub returns-in-Rgba-clause-counts : goal.returns-in-Rgba-clause-counts
+returns-in-Rgba-clause-counts g c =
+    let e = c.arranged-source.ensures in
+    source_counts g.S.Sample.numbers g.S.Sample.number c.args.s c.args.width c.args.samples.now c.arranged-source.result c.tail_at.result c.cr_tail_at.result e.luma e.chroma (four c.in-Rgba.is) c.div_ceil-last.ensures c.tail_at.ensures c.cr_tail_at.ensures c.args.k c.interpolate-in-Rgba.ensures.counts

@@ -1,11 +1,6 @@
-use mathlib.Core.Path.{sym, ◌∙◌}
-use Rattle.inverse_transform.proofs.Coefficients.{row_found, no_row}
+use Rattle.std.proofs.Common.{rules}
+use Rattle.inverse_transform.proofs.Coefficients.{row_or}
 use Rattle.inverse_transform.proofs.search_inverse_transform.Goals as goal
 
-pub returns-in-Some : goal.returns-in-Some
-returns-in-Some c = row_found c.args.s _ (sym c.in-Some.is ∙ c.get_built_inverse_transform.ensures.built)
-
-pub returns-in-None : goal.returns-in-None
-returns-in-None c =
-    c.computed.ensures
-    ∙ no_row c.args.s (sym c.in-None.is ∙ c.get_built_inverse_transform.ensures.built)
+pub returns : goal.returns
+returns c = row_or c.args.s c.get_built_inverse_transform-row.ensures.built c.unwrap_or_else.ensures (λ p. search rules)

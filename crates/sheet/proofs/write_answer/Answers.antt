@@ -1,4 +1,3 @@
-use Rattle.std.proofs.Common.{rules}
 use Prim.Native.Nat.{ℕ}
 use lib.ListN.{length-replicate}
 use Rattle.sheet.proofs.Written.{written}

@@ -1,22 +1,27 @@
-use Rattle.sheet_numbers.proofs.ManyNumbers.{reading_none, reading_one, reading_missed, reading_above, reading_done}
+use Rattle.std.proofs.Common.{arith}
+use Rattle.std.proofs.lemmas.List.{set-get_or, length-take-le}
+use Rattle.sheet_numbers.proofs.ManyNumbers.{reading_none, reading_one, reading_missed, reading_above, reading_done, taken_in}
 use Rattle.sheet_numbers.proofs.read_lines.Goals as goal
 
 pub loop-i-init : goal.loop-i-init
-loop-i-init c = reading_none c.requires.0
+loop-i-init c = reading_none c.requires.place
 
 pub returns-in_err-number : goal.returns-in_err-number
 returns-in_err-number c =
-    rw c.from_residual.ensures
-    (reading_missed c.loop-i.invariant c.loop-i-test.true c.ending_of.ensures c.read_number.ensures c.in_err-number.was)
+    rw (c.from_residual.ensures, set-get_or c.loop-i.slot-items c.loop-i.i 0)
+    (taken_in _ c.requires.room
+    (reading_missed c.loop-i.invariant (omega (arith, c.loop-i-test.true, length-take-le _ _ c.requires.room)) c.ending_of.ensures c.read_number.ensures c.in_err-number.was))
 
-pub returns-then-limit-number : goal.returns-then-limit-number
-returns-then-limit-number c =
-    reading_above c.loop-i.invariant c.loop-i-test.true c.ending_of.ensures c.read_number.ensures c.in_ok-number.was c.if-limit-number.true
+pub returns-then-lines-number : goal.returns-then-lines-number
+returns-then-lines-number c =
+    rw (set-get_or c.loop-i.slot-items c.loop-i.i 0)
+    (taken_in _ c.requires.room
+    (reading_above c.loop-i.invariant (omega (arith, c.loop-i-test.true, length-take-le _ _ c.requires.room)) c.ending_of.ensures c.read_number.ensures c.in_ok-number.was c.if-lines-number.true))
 
 pub loop-i-preserved : goal.loop-i-preserved
 loop-i-preserved c =
-    reading_one c.loop-i.invariant c.loop-i-test.true c.ending_of.ensures c.read_number.ensures c.in_ok-number.was c.if-limit-number.false
-    c.requires.3
+    reading_one c.loop-i.invariant (omega (arith, c.loop-i-test.true, length-take-le _ _ c.requires.room)) c.ending_of.ensures c.read_number.ensures c.in_ok-number.was c.if-lines-number.false
+    (omega (arith, length-take-le _ _ c.requires.room))
 
 pub returns : goal.returns
-returns c = reading_done c.loop-i.invariant c.loop-i-test.false
+returns c = taken_in _ c.requires.room (reading_done c.loop-i.invariant (omega (arith, c.loop-i-test.false, length-take-le _ _ c.requires.room)))

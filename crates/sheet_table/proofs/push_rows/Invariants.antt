@@ -1,5 +1,4 @@
 use Rattle.std.proofs.Common.{◌≡◌, ◌++◌, ◌+◌, ◌*◌, ◌≤◌, length}
-use Rattle.sheet_writing.specs.Text.{joined}
 use Rattle.sheet_table.specs.Shown.{shown_rows}
 use Rattle.sheet_table.proofs.push_rows.Given as goal
 

@@ -1,4 +1,4 @@
-use mathlib.Core.Path.{◌≡◌, ap, ◌∙◌}
+use mathlib.Core.Path.{ap, ◌∙◌}
 use Rattle.std.proofs.Common.{arith}
 use lib.ListN.{length}
 use Rattle.sheet_writing.proofs.Write.{copied_to}

@@ -1,4 +1,5 @@
 use Rattle.std.proofs.Common.{ap, length, ◌∙◌}
+use Rattle.yuv_support.specs.Settings.{sampling_of}
 use Rattle.images.specs.Lent.{geometry, lengths_with}
 use Rattle.y4m.specs.Writing.{frame_text, frame_length, frame_written, after_frame}
 use Rattle.y4m.specs.Inner.{written_by, output_by}
@@ -10,7 +11,7 @@ unfolding frame_written
 returns-clause-answer g c =
     let a = c.args in
     let i = a.image.now in
-    let n = frame_length g.S.Sample.SIZE a.sampling (geometry i) in
+    let n = frame_length g.S.Sample.SIZE (sampling_of a.sampling) (geometry i) in
     c.told_written.ensures
     ∙ ap written_by c.put_frame.ensures.count
     ∙ written_result _ n _
@@ -22,8 +23,8 @@ returns-clause-output g c =
     let a = c.args in
     let i = a.image.now in
     let numbers = g.S.Sample.numbers in
-    let n = frame_length g.S.Sample.SIZE a.sampling (geometry i) in
-    let text = frame_text g.S.Sample.SIZE a.sampling (geometry i) (numbers i.y_plane.now) (numbers i.u_plane.now) (numbers i.v_plane.now) in
+    let n = frame_length g.S.Sample.SIZE (sampling_of a.sampling) (geometry i) in
+    let text = frame_text g.S.Sample.SIZE (sampling_of a.sampling) (geometry i) (numbers i.y_plane.now) (numbers i.u_plane.now) (numbers i.v_plane.now) in
     c.put_frame.ensures.output
     ∙ ap (λ r. output_by r text a.out.now) c.put_frame.ensures.count
     ∙ output_result _ n _

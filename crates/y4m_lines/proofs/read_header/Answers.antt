@@ -1,11 +1,8 @@
-use Rattle.std.proofs.Common.{◌≡◌, ◌∙◌, sym, refl, take, arith}
+use Rattle.std.proofs.Common.{◌∙◌, sym, arith}
 use lib.Seq.{length-take-le}
 use native.Mathlib.Nat.{le_of_lt}
-use Rattle.sheet_numbers.specs.Read.{begins_with}
-use Rattle.sheet_numbers.proofs.Begins.{starts_begins}
-use Rattle.y4m_text.specs.Words.{header_word}
 use Rattle.y4m_lines.proofs.OneLine.{Lined, lined, line_none}
-use Rattle.y4m_lines.proofs.HeaderLaws.{no_line, no_word, one_empty, no_width, no_height, two_colours, whole_header}
+use Rattle.y4m_lines.proofs.HeaderLaws.{worded, no_line, no_word, one_empty, no_width, no_height, two_colours, whole_header}
 use Rattle.y4m_lines.proofs.read_header.Goals as goal
 
 pub returns-in_err-end : goal.returns-in_err-end
@@ -17,41 +14,30 @@ slice_bounds-line-end c =
     sym (length-take-le _ _ (le_of_lt line.within))
 
 pub returns-then-not-starts_with : goal.returns-then-not-starts_with
-returns-then-not-starts_with c =
-    let line : Lined c.args.s.now 0 c.in_ok-end.end = lined _ 0 c.line_at.ensures c.in_ok-end.was in
-    let word : c.starts_with.result ≡ begins_with (take c.in_ok-end.end c.args.s.now) header_word =
-    c.starts_with.ensures.value ∙ starts_begins (take c.in_ok-end.end c.args.s.now) header_word refl in
-    no_word line (sym word ∙ c.if-not-starts_with.true)
+returns-then-not-starts_with c = no_word (lined _ 0 c.line_at.ensures c.in_ok-end.was) (worded _ c.starts_with.ensures.value c.if-not-starts_with.true)
 
 pub returns-then-not-none_empty : goal.returns-then-not-none_empty
 returns-then-not-none_empty c =
-    let line : Lined c.args.s.now 0 c.in_ok-end.end = lined _ 0 c.line_at.ensures c.in_ok-end.was in
-    let word : c.starts_with.result ≡ begins_with (take c.in_ok-end.end c.args.s.now) header_word =
-    c.starts_with.ensures.value ∙ starts_begins (take c.in_ok-end.end c.args.s.now) header_word refl in
-    one_empty line (sym word ∙ c.if-not-starts_with.false) (sym c.none_empty.ensures ∙ c.if-not-none_empty.true)
+    one_empty (lined _ 0 c.line_at.ensures c.in_ok-end.was) (worded _ c.starts_with.ensures.value c.if-not-starts_with.false) (sym c.none_empty.ensures ∙ c.if-not-none_empty.true)
 
 pub returns-in_err-width : goal.returns-in_err-width
 returns-in_err-width c =
-    let line : Lined c.args.s.now 0 c.in_ok-end.end = lined _ 0 c.line_at.ensures c.in_ok-end.was in
-    let word : c.starts_with.result ≡ begins_with (take c.in_ok-end.end c.args.s.now) header_word =
-    c.starts_with.ensures.value ∙ starts_begins (take c.in_ok-end.end c.args.s.now) header_word refl in
-    c.from_residual-in_err-width.ensures ∙ no_width line (sym word ∙ c.if-not-starts_with.false) (sym c.none_empty.ensures ∙ c.if-not-none_empty.false) (sym c.in_err-width.was ∙ c.read_side.ensures)
+    c.from_residual-in_err-width.ensures
+    ∙ no_width (lined _ 0 c.line_at.ensures c.in_ok-end.was) (worded _ c.starts_with.ensures.value c.if-not-starts_with.false) (sym c.none_empty.ensures ∙ c.if-not-none_empty.false)
+    (sym c.in_err-width.was ∙ c.read_side.ensures)
 
 pub returns-in_err-height : goal.returns-in_err-height
 returns-in_err-height c =
-    let line : Lined c.args.s.now 0 c.in_ok-end.end = lined _ 0 c.line_at.ensures c.in_ok-end.was in
-    let word : c.starts_with.result ≡ begins_with (take c.in_ok-end.end c.args.s.now) header_word =
-    c.starts_with.ensures.value ∙ starts_begins (take c.in_ok-end.end c.args.s.now) header_word refl in
     c.from_residual-in_err-height.ensures
-    ∙ no_height line (sym word ∙ c.if-not-starts_with.false) (sym c.none_empty.ensures ∙ c.if-not-none_empty.false) (sym c.in_ok-width.was ∙ c.read_side.ensures) (sym c.in_err-height.was ∙ c.read_side-2.ensures)
+    ∙ no_height (lined _ 0 c.line_at.ensures c.in_ok-end.was) (worded _ c.starts_with.ensures.value c.if-not-starts_with.false) (sym c.none_empty.ensures ∙ c.if-not-none_empty.false)
+    (sym c.in_ok-width.was ∙ c.read_side.ensures) (sym c.in_err-height.was ∙ c.read_side-2.ensures)
 
-pub returns-in_default : goal.returns-in_default
-returns-in_default c =
-    let line : Lined c.args.s.now 0 c.in_ok-end.end = lined _ 0 c.line_at.ensures c.in_ok-end.was in
-    let word : c.starts_with.result ≡ begins_with (take c.in_ok-end.end c.args.s.now) header_word =
-    c.starts_with.ensures.value ∙ starts_begins (take c.in_ok-end.end c.args.s.now) header_word refl in
-    two_colours line (sym word ∙ c.if-not-starts_with.false) (sym c.none_empty.ensures ∙ c.if-not-none_empty.false) (sym c.in_ok-width.was ∙ c.read_side.ensures) (sym c.in_ok-height.was ∙ c.read_side-2.ensures)
-    c.in_default.field-0 (sym c.in_default.is ∙ c.read_colour.ensures)
+pub returns-in_err-format : goal.returns-in_err-format
+returns-in_err-format c =
+    c.from_residual-in_err-format.ensures
+    ∙ two_colours (lined _ 0 c.line_at.ensures c.in_ok-end.was) (worded _ c.starts_with.ensures.value c.if-not-starts_with.false) (sym c.none_empty.ensures ∙ c.if-not-none_empty.false)
+    (sym c.in_ok-width.was ∙ c.read_side.ensures) (sym c.in_ok-height.was ∙ c.read_side-2.ensures)
+    c.read_colour.ensures (sym c.ok.ensures.value ∙ c.in_err-format.was)
 
 pub overflow_add-result : goal.overflow_add-result
 overflow_add-result c =
@@ -60,8 +46,6 @@ overflow_add-result c =
 
 pub returns : goal.returns
 returns c =
-    let line : Lined c.args.s.now 0 c.in_ok-end.end = lined _ 0 c.line_at.ensures c.in_ok-end.was in
-    let word : c.starts_with.result ≡ begins_with (take c.in_ok-end.end c.args.s.now) header_word =
-    c.starts_with.ensures.value ∙ starts_begins (take c.in_ok-end.end c.args.s.now) header_word refl in
-    whole_header line (sym word ∙ c.if-not-starts_with.false) (sym c.none_empty.ensures ∙ c.if-not-none_empty.false) (sym c.in_ok-width.was ∙ c.read_side.ensures) (sym c.in_ok-height.was ∙ c.read_side-2.ensures)
-    (sym c.in-Ok.is ∙ c.read_colour.ensures)
+    whole_header (lined _ 0 c.line_at.ensures c.in_ok-end.was) (worded _ c.starts_with.ensures.value c.if-not-starts_with.false) (sym c.none_empty.ensures ∙ c.if-not-none_empty.false)
+    (sym c.in_ok-width.was ∙ c.read_side.ensures) (sym c.in_ok-height.was ∙ c.read_side-2.ensures)
+    c.read_colour.ensures (sym c.ok.ensures.value ∙ c.in_ok-format.was)

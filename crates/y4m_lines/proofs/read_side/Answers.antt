@@ -1,12 +1,13 @@
-use Rattle.std.proofs.Common.{◌∙◌}
-use Rattle.y4m_lines.proofs.HeaderLaws.{side_absent, side_single, side_several}
+use Rattle.std.proofs.Common.{sym, ◌∙◌}
+use Rattle.y4m_lines.proofs.HeaderLaws.{side_of_several, side_of_none, side_of_one}
 use Rattle.y4m_lines.proofs.read_side.Goals as goal
 
-pub returns-in-Ok-Some : goal.returns-in-Ok-Some
-returns-in-Ok-Some c = c.read_number.ensures ∙ side_single (rw c.in-Ok-Some.field-0-is at c.in-Ok-Some.ensures)
+pub returns-in_err-ok : goal.returns-in_err-ok
+returns-in_err-ok c = c.from_residual.ensures ∙ side_of_several _ c.find_field.result c.find_field.ensures (sym c.ok.ensures.value ∙ c.in_err-ok.was)
 
-pub returns-in-Ok-None : goal.returns-in-Ok-None
-returns-in-Ok-None c = side_absent (rw c.in-Ok-None.field-0-is at c.in-Ok-None.ensures)
+pub returns-in_err-branch : goal.returns-in_err-branch
+returns-in_err-branch c =
+    c.from_residual-in_err-branch.ensures ∙ side_of_none _ c.find_field.result c.find_field.ensures (sym c.ok.ensures.value ∙ c.in_ok-ok.was) c.in_err-branch.was
 
-pub returns-in-Err : goal.returns-in-Err
-returns-in-Err c = side_several _ c.in-Err.ensures
+pub returns : goal.returns
+returns c = c.read_number.ensures ∙ side_of_one _ c.find_field.result c.find_field.ensures (sym c.ok.ensures.value ∙ c.in_ok-ok.was) c.in_ok-branch.was

@@ -6,4 +6,4 @@ use Rattle.blocks.proofs.bytes.pairs.Given as goal
 
 abbrev pub invariant-loop-i : goal.invariant-loop-i
 invariant-loop-i g l =
-    Begun (row_value l.k g.row.LETTERS (at l.y) (at l.p) (at l.q)) l.initial.row l.row (g.row.LETTERS * (2 * l.i)) × (length l.words ≡ length l.initial.words) × Filled l.i (pair_word l.k (at l.y) (at l.p) (at l.q)) l.words
+    Begun (row_value l.k g.row.LETTERS (at l.y) (at l.p) (at l.q)) l.initial.row l.row (g.row.LETTERS * (2 * l.i)) × (length l.word-items ≡ length l.initial.word-items) × Filled l.i (pair_word l.k (at l.y) (at l.p) (at l.q)) l.word-items

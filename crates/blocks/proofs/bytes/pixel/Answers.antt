@@ -7,4 +7,8 @@ returns c =
     let a = c.args in
     let e = c.pixel.ensures in
     let m = c.requires.0.max in
-    (e, rw e (omega (arith, m)), rw e (omega (arith, m)), rw e (omega (arith, m)), rw e (below_three a.k a.y a.p a.q), rw e (above_three a.k a.y a.p a.q))
+    record {
+      letters = e;
+      fit = (rw e (omega (arith, m)), rw e (omega (arith, m)), rw e (omega (arith, m)));
+      few = (rw e (below_three a.k a.y a.p a.q), rw e (above_three a.k a.y a.p a.q));
+    }

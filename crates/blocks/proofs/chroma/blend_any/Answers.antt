@@ -20,8 +20,8 @@ loop-j-preserved g c =
     let n1 = c.read-in-loop-j-2.ensures.value in
     let f1 = c.read-in-loop-j-3.ensures.value in
     let w = c.write_pair.ensures in (
-      rw w (pair_begun l.j l.invariant.0 (omega (arith, c.requires.0))
-          (c.left16-l.ensures ∙ rw (a, b, n0, f0, n1, f1) (sym (pair_left l.j near far)))
-          (c.right16-r.ensures ∙ rw (a, b, n0, f0, n1, f1) (sym (pair_right l.j near far)))),
+      rw w (pair_begun l.j l.invariant.0 (omega (arith, c.requires.room))
+          (c.chroma16-l.ensures ∙ rw (a, b, n0, f0, n1, f1) (sym (pair_left l.j near far)))
+          (c.chroma16-r.ensures ∙ rw (a, b, n0, f0, n1, f1) (sym (pair_right l.j near far)))),
       rw w (simp length-set l.invariant.1),
     )

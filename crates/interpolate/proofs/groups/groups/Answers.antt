@@ -2,9 +2,11 @@ use mathlib.Core.Path.{◌≡◌, refl, sym, ap, ◌∙◌}
 use Prim.Native.Nat.{ℕ, ◌+◌, ◌-◌, ◌*◌, ◌≤◌, ◌<◌}
 use native.Mathlib.Nat.{mul-zero}
 use native.Mathlib.Omega.{arith}
-use Rattle.numerics.specs.Row.{at, tailed, clipped_over}
+use Rattle.numerics.specs.Row.{clipped_over}
 use Rattle.numerics.proofs.Row.{begun_none}
 use Rattle.numerics.proofs.Clips.{clipped_none, clipped_on, most_of}
+use Rattle.blocks.specs.Parts.{after}
+use Rattle.blocks.specs.Source.{luma_of, chroma_of}
 use Rattle.interpolate.proofs.groups.groups.Goals as goal
 
 -- a group ends after at least 8 pairs
@@ -12,28 +14,38 @@ next_most : (from eights done : ℕ) → from ≤ done → done < from + 8 * eig
 next_most from eights done h h' l = omega arith
 
 pub loop-done-init : goal.loop-done-init
-loop-done-init g c = let a = c.args in let N = g.S.Sample.numbers in let one = g.S.Sample.number in (omega arith, λ h. refl, rw (mul-zero a.letters) begun_none, sym (clipped_none a.k (at (N a.y.now)) (tailed a.samples (N a.first.now.near.now) (N a.first.now.far.now) (one a.first.now.tail)) (tailed a.samples (N a.third.now.near.now) (N a.third.now.far.now) (one a.third.now.tail))), c.requires.room)
+loop-done-init g c =
+    let a = c.args in
+    let N = g.S.Sample.numbers in
+    let one = g.S.Sample.number in
+    let s = a.source.now in
+    (omega arith, λ h. refl, rw (mul-zero a.pixels.letters) begun_none, sym (clipped_none a.pixels.k (luma_of N one s) (chroma_of N one a.samples s.first) (chroma_of N one a.samples s.third)))
 
 pub both-clipped-requires : goal.both-clipped-requires
 both-clipped-requires g c =
-    let a = c.args in let N = g.S.Sample.numbers in let one = g.S.Sample.number in
+    let a = c.args in
+    let N = g.S.Sample.numbers in
+    let one = g.S.Sample.number in
+    let s = a.source.now in
     let l = c.loop-done in
     let e = c.next_span-span.ensures in
-    let b = most_of a.k (at (N a.y.now)) (tailed a.samples (N a.first.now.near.now) (N a.first.now.far.now) (one a.first.now.tail)) (tailed a.samples (N a.third.now.near.now) (N a.third.now.far.now) (one a.third.now.tail)) (2 * l.done) l.invariant.3 in
-    let x = most_of a.k (λ c. at (N a.y.now) (2 * l.done + c)) (λ c. tailed a.samples (N a.first.now.near.now) (N a.first.now.far.now) (one a.first.now.tail) (2 * l.done + c)) (λ c. tailed a.samples (N a.third.now.near.now) (N a.third.now.far.now) (one a.third.now.tail) (2 * l.done + c)) _ c.group-x.ensures.counts in
-    (omega (arith, c.requires.most, l.invariant.0, e.2, b.0, x.0), omega (arith, c.requires.most, l.invariant.0, e.2, b.1, x.1))
+    let b = most_of a.pixels.k (luma_of N one s) (chroma_of N one a.samples s.first) (chroma_of N one a.samples s.third) (2 * l.done) l.invariant.3 in
+    let x = most_of a.pixels.k (after l.done (luma_of N one s)) (after l.done (chroma_of N one a.samples s.first)) (after l.done (chroma_of N one a.samples s.third)) _ c.group-x.ensures.counts in
+    (omega (arith, c.requires.most, l.invariant.0, e.inside, b.0, x.0), omega (arith, c.requires.most, l.invariant.0, e.inside, b.1, x.1))
 
 pub loop-done-preserved : goal.loop-done-preserved
 loop-done-preserved g c =
-    let a = c.args in let N = g.S.Sample.numbers in let one = g.S.Sample.number in
+    let a = c.args in
+    let N = g.S.Sample.numbers in
+    let one = g.S.Sample.number in
+    let s = a.source.now in
     let l = c.loop-done in
     let n = c.next_span-span.result in
     let e = c.next_span-span.ensures in
     let x = c.group-x.ensures in
-    let q : 2 * l.done + 2 * (n.from + 8 * n.eights - l.done) ≡ 2 * (n.from + 8 * n.eights) = omega (arith, e.1) in (
-      e.2,
-      λ h. absurd (next_most n.from n.eights l.done e.0 e.1 h),
+    let q : 2 * l.done + 2 * (n.from + 8 * n.eights - l.done) ≡ 2 * (n.from + 8 * n.eights) = omega (arith, e.on) in (
+      e.inside,
+      λ h. absurd (next_most n.from n.eights l.done e.back e.on h),
       x.row (N a.row.now) l.invariant.2,
-      c.both-clipped.ensures ∙ rw (l.invariant.3, x.counts) (clipped_on a.k (at (N a.y.now)) (tailed a.samples (N a.first.now.near.now) (N a.first.now.far.now) (one a.first.now.tail)) (tailed a.samples (N a.third.now.near.now) (N a.third.now.far.now) (one a.third.now.tail)) (λ c. at (N a.y.now) (2 * l.done + c)) (λ c. tailed a.samples (N a.first.now.near.now) (N a.first.now.far.now) (one a.first.now.tail) (2 * l.done + c)) (λ c. tailed a.samples (N a.third.now.near.now) (N a.third.now.far.now) (one a.third.now.tail) (2 * l.done + c)) (2 * l.done) _ (λ c h. refl) (λ c h. refl) (λ c h. refl) ∙ ap (clipped_over a.k (at (N a.y.now)) (tailed a.samples (N a.first.now.near.now) (N a.first.now.far.now) (one a.first.now.tail)) (tailed a.samples (N a.third.now.near.now) (N a.third.now.far.now) (one a.third.now.tail))) q),
-      x.room,
+      c.both-clipped.ensures ∙ rw (l.invariant.3, x.counts) (clipped_on a.pixels.k (luma_of N one s) (chroma_of N one a.samples s.first) (chroma_of N one a.samples s.third) (after l.done (luma_of N one s)) (after l.done (chroma_of N one a.samples s.first)) (after l.done (chroma_of N one a.samples s.third)) (2 * l.done) _ (λ c h. refl) (λ c h. refl) (λ c h. refl) ∙ ap (clipped_over a.pixels.k (luma_of N one s) (chroma_of N one a.samples s.first) (chroma_of N one a.samples s.third)) q),
     )

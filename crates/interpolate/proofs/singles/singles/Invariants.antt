@@ -7,4 +7,4 @@ use Rattle.interpolate.proofs.singles.singles.Given as goal
 abbrev pub invariant-loop-c : goal.invariant-loop-c
 invariant-loop-c g l =
     let N = g.S.Sample.numbers in
-    Begun (row_value l.k l.letters (at (N l.y)) (at (N l.p)) (at (N l.q))) (N l.initial.row) (N l.row) (l.letters * l.c) × (l.clipped ≡ clipped_over l.k (at (N l.y)) (at (N l.p)) (at (N l.q)) l.c) × (length (N l.row) ≡ length (N l.initial.row))
+    Begun (row_value l.pixels.k l.pixels.letters (at (N l.y)) (at (N l.p)) (at (N l.q))) (N l.initial.row) (N l.row) (l.pixels.letters * l.c) × (l.clipped ≡ clipped_over l.pixels.k (at (N l.y)) (at (N l.p)) (at (N l.q)) l.c) × (length (N l.row) ≡ length (N l.initial.row))

@@ -1,9 +1,0 @@
-use mathlib.Core.Path.{◌≡◌}
-use Prim.Native.Nat.{ℕ, ◌*◌, ◌≤◌, ◌<◌}
-use lib.ListN.{length}
-use Rattle.numerics.specs.Row.{at, column_of, Filled}
-use Rattle.blocks.proofs.chroma.columns.Given as goal
-
-abbrev pub invariant-loop-j : goal.invariant-loop-j
-invariant-loop-j g l =
-    Filled l.j (column_of (g.S.Sample.numbers l.near) (g.S.Sample.numbers l.far)) l.sums × (length l.sums ≡ length l.initial.sums) × ((i : ℕ) → i < l.j → at l.sums i ≤ 4 * g.S.Sample.most)
