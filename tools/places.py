@@ -147,7 +147,8 @@ say('6 fixed arrays made',
 say('7 flags that choose a step', [f.place() + ': ' + p for f in functions for p in f.parameters if re.search(r': bool$', p)])
 
 say('7 const parameters that are flags',
-    sorted({c + ' ' + n for c, t in texts.values() for n in re.findall(r'\bif (\w+) == 1 \{', t) if re.search(r'\bconst %s: usize' % n, t)}))
+    sorted({c + ' ' + n for c, t in texts.values() for n in re.findall(r'\bif (\w+)(?: == 1)? \{', t)
+            if re.search(r'\bconst %s: (usize|bool)' % n, t)}))
 
 for name in ('Answers', 'Invariants', 'Proof'):
     files = glob.glob('crates/*/proofs/**/%s.antt' % name, recursive=True)

@@ -48,8 +48,8 @@ module _ {X : Type 0} (numbers : List X → List ℕ) where
   pixels_clipped k y p q = clipped_over k (at (numbers y)) (at (numbers p)) (at (numbers q)) (length (numbers y))
 
   -- an array d, which was d₀, begins with chroma at the columns of n pairs
-  abbrev pub blended : List X → List X → List X → List X → ℕ → Type 0
-  blended near far d₀ d n = Begun (pair_chroma (numbers near) (numbers far)) (numbers d₀) (numbers d) (2 * n)
+  abbrev pub blended : ChromaRows X → List X → List X → ℕ → Type 0
+  blended rows d₀ d n = Begun (pair_chroma (numbers rows.near.now) (numbers rows.far.now)) (numbers d₀) (numbers d) (2 * n)
 
 -- ---- what is given
 

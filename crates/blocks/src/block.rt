@@ -22,7 +22,7 @@ pub trait Block: Sample {
         ensures fit { (result.first ≤ Self.most) × (result.green ≤ Self.most) × (result.third ≤ Self.most) };
 
     // Eight pairs `eights` times, of parts of the rows; the last pair is the tail where the parts end with it. What was clipped in the pairs
-    // after the first `done`. `scratch` is room to work in.
+    // after the first `done`. `scratch` is room to work in. The head of `interpolate` says why `row`, `source` and `scratch` are no struct.
     fn convert(
         row: &mut [Self],
         source: &Source<'_, Self>,

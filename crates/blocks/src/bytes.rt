@@ -68,7 +68,8 @@ fn tally(a: Letters, b: Letters) -> u16
     (a.below + b.below) + 256 * (a.above + b.above)
 }
 
-// The letters of pair i, and its word of counts.
+// The letters of pair i, and its word of counts. `y`, `p` and `q` stay three slices, here, in `words` and in `interpolate::singles`: luma is
+// a row of a `Source`, and chroma is lent by a `Scratch` or by two small arrays.
 fn pair<const LETTERS: usize>(
     row: &mut [u8],
     y: &[u8],
@@ -123,6 +124,7 @@ fn pairs<const LETTERS: usize>(
     ensures counts { Filled (8 * eights) (pair_words k y.now p.now q.now) words.new }
 {
     let n = 8 * eights;
+    // The rows go by the number of the word: of what a loop over a zip with `iter_mut` writes nothing is known, and the place needs the number.
     for (i, word) in words[..n].iter_mut().enumerate() {
         *word = pair::<LETTERS>(row, y, p, q, i, k);
     }
@@ -145,7 +147,7 @@ fn block(row: &mut [u8], y: &[u8], scratch: &mut Scratch<u8>, eights: usize, pix
     }
 }
 
-// Bytes are below 4,096.
+// Bytes are below 4,096. It does nothing: the prover knows the bound of a slice that is a parameter, and not of one in a struct.
 fn small_bytes(xs: &[u8])
     ensures { Small (length xs.now) xs.now }
 {}

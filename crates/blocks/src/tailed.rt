@@ -1,5 +1,6 @@
-// Chroma at the columns of the pairs of a group, of which the last may be the tail. It goes into arrays of a `Scratch`, which have room for any
-// group, and the sums of its columns too.
+// Chroma at the columns of the pairs of a group, of which the last may be the tail. It goes into arrays of a `Scratch`, which have room for
+// any group, and the sums of its columns too. `d` is p or q of it, and so is lent apart from the sums. The number of pairs n goes beside the
+// rows, which have as many samples as pairs or one more.
 ghost use Rattle.std.specs.Prelude.{◌≡◌, ℕ, ◌+◌, ◌*◌, ◌≤◌, ◌<◌, length, set};
 ghost use Rattle.numerics.specs.Row.{at, column_of, across_at, Small, Filled, Begun};
 ghost use Rattle.blocks.specs.Source.{part_of, tailed_fit, small_rows, blended, tail_put};
@@ -19,15 +20,17 @@ pub fn write_pair<S: Sample>(d: &mut [S], place: usize, first: u16, second: u16)
 }
 
 // The near and the far sample of each of n columns, in quarters: at most 16,380.
-fn columns<S: Sample>(sums: &mut [u16; 257], near: &[S], far: &[S], n: usize)
+fn columns<S: Sample>(sums: &mut [u16; 257], rows: &ChromaRows<'_, S>, n: usize)
     requires few { n ≤ 257 }
-    requires samples { (n ≤ length (S.numbers near.now)) × (n ≤ length (S.numbers far.now)) }
-    requires small { Small n (S.numbers near.now) × Small n (S.numbers far.now) }
-    ensures sums { Filled n (column_of (S.numbers near.now) (S.numbers far.now)) sums.new }
+    requires near { n ≤ length (S.numbers rows.now.near.now) }
+    requires far { n ≤ length (S.numbers rows.now.far.now) }
+    requires small { Small n (S.numbers rows.now.near.now) × Small n (S.numbers rows.now.far.now) }
+    ensures sums { Filled n (column_of (S.numbers rows.now.near.now) (S.numbers rows.now.far.now)) sums.new }
     ensures fits { (j : ℕ) → j < n → at sums.new j ≤ 4 * S.most }
 {
+    // By number, as in `bytes::pairs`.
     for (j, sum) in sums[..n].iter_mut().enumerate() {
-        *sum = 3 * read(near, j) + read(far, j);
+        *sum = 3 * read(rows.near, j) + read(rows.far, j);
     }
 }
 
@@ -40,8 +43,8 @@ fn across<S: Sample>(d: &mut [S; 512], sums: &[u16; 257], n: usize)
     // At most 255: so the compiler knows that what is written ends before the sums, which are in the same struct. Without it a row of u16
     // samples takes 1.3 times as long.
     let last = (n - 1) % 256;
-    // By index: a turn writes two places. A loop over chunks_exact_mut does not say what it wrote, and by one over the samples frames take 1.6
-    // times as long.
+    // By index: a turn writes two places. A loop over chunks_exact_mut does not say what it wrote, and by one over the samples frames take
+    // 1.6 times as long.
     for j in 0..last + 1 {
         let a = sums[j];
         let b = sums[j + 1];
@@ -53,13 +56,14 @@ fn across<S: Sample>(d: &mut [S; 512], sums: &[u16; 257], n: usize)
 }
 
 // Chroma at the columns of n pairs, of samples below 4,096. `sums` is room to work in.
-fn blend<S: Sample>(d: &mut [S; 512], sums: &mut [u16; 257], near: &[S], far: &[S], n: usize)
+fn blend<S: Sample>(d: &mut [S; 512], sums: &mut [u16; 257], rows: &ChromaRows<'_, S>, n: usize)
     requires some { (1 ≤ n) × (n ≤ 256) }
-    requires samples { (n < length (S.numbers near.now)) × (n < length (S.numbers far.now)) }
-    requires small { Small (n + 1) (S.numbers near.now) × Small (n + 1) (S.numbers far.now) }
-    ensures { blended S.numbers near.now far.now d.old d.new n }
+    requires near { n < length (S.numbers rows.now.near.now) }
+    requires far { n < length (S.numbers rows.now.far.now) }
+    requires small { Small (n + 1) (S.numbers rows.now.near.now) × Small (n + 1) (S.numbers rows.now.far.now) }
+    ensures { blended S.numbers rows.now d.old d.new n }
 {
-    columns(sums, near, far, n + 1);
+    columns(sums, rows, n + 1);
     across(d, sums, n);
 }
 
@@ -87,6 +91,6 @@ pub fn blend_tailed<S: Sample>(
     ensures { Begun (part_of S.numbers S.number rows.now) (S.numbers d.old) (S.numbers d.new) (2 * n) }
 {
     let some = rows.near.len() - 1;
-    blend(d, sums, rows.near, rows.far, some);
+    blend(d, sums, rows, some);
     put_tail(d, rows.tail, some, n);
 }

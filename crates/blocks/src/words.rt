@@ -1,12 +1,12 @@
 // Letters of u16 samples: in 16-bit lanes where all samples are below 4,096, and in 32-bit lanes for any samples.
 // Which of the two (QUICK) is a const bool, and no closure or trait: it is chosen once for a group, and each loop is compiled for it. A trait
 // with two empty types would say the same in more words.
-ghost use Rattle.std.specs.Prelude.{◌≡◌, ◌⊎◌, true, false, ℕ, ◌+◌, ◌*◌, ◌≤◌, length};
+ghost use Rattle.std.specs.Prelude.{◌≡◌, ◌⊎◌, true, ℕ, ◌+◌, ◌*◌, ◌≤◌, length};
 ghost use Rattle.std.proofs.lemmas.List.Edits.{sets};
-ghost use Rattle.numerics.specs.Kernel.{letters_at, Quick, Words};
+ghost use Rattle.numerics.specs.Kernel.{letters_at, Words};
 ghost use Rattle.numerics.specs.Row.{stored, word_at, Small, Filled, BlockFits};
 ghost use Rattle.blocks.specs.Kernels.{words_max};
-ghost use Rattle.blocks.specs.Parts.{lettered, pixel_words, small_columns};
+ghost use Rattle.blocks.specs.Parts.{lettered, pixel_words, small_columns, Chosen};
 ghost use Rattle.blocks.specs.Source.{words_fit, word_letters, word_counts, arrays_fit, array_letters, few_chroma, SmallChroma};
 
 use crate::block::Block;
@@ -44,8 +44,7 @@ fn is_small(y: &[u16], first: &ChromaRows<'_, u16>, third: &ChromaRows<'_, u16>)
 
 // The letters of a pixel: by the signed sums where all samples are below 4,096 (QUICK), and else by those for any samples.
 fn pixel<const QUICK: bool>(k: Kernel, y: u16, p: u16, q: u16) -> Letters
-    requires quick { QUICK ≡ true → Quick k × (y ≤ 4095) × (p ≤ 4095) × (q ≤ 4095) }
-    requires any { QUICK ≡ false → Words k }
+    requires kernel { Chosen QUICK k ((y ≤ 4095) × (p ≤ 4095) × (q ≤ 4095)) }
     ensures { result ≡ letters_at k y p q }
 {
     if QUICK {
@@ -65,8 +64,7 @@ fn put<const QUICK: bool, const LETTERS: usize>(
 ) -> u16
     requires letters { (LETTERS ≡ 3) ⊎ (LETTERS ≡ 4) }
     requires inside { place + LETTERS ≤ length row.old }
-    requires quick { QUICK ≡ true → Quick k × (y ≤ 4095) × (p ≤ 4095) × (q ≤ 4095) }
-    requires any { QUICK ≡ false → Words k }
+    requires kernel { Chosen QUICK k ((y ≤ 4095) × (p ≤ 4095) × (q ≤ 4095)) }
     ensures row { row.new ≡ sets row.old place (stored k LETTERS y p q) }
     ensures counts { result ≡ word_at k y p q }
 {
@@ -90,12 +88,12 @@ fn put_all<const QUICK: bool, const LETTERS: usize>(
     k: Kernel,
 )
     requires fits { BlockFits LETTERS (8 * eights) (8 * eights) row.old y.now p.now q.now words.old }
-    requires quick { QUICK ≡ true → Quick k × small_columns (8 * eights) y.now p.now q.now }
-    requires any { QUICK ≡ false → Words k }
+    requires kernel { Chosen QUICK k (small_columns (8 * eights) y.now p.now q.now) }
     ensures row { row.new ≡ lettered k LETTERS y.now p.now q.now row.old }
     ensures counts { Filled (8 * eights) (pixel_words k y.now p.now q.now) words.new }
 {
     let n = 8 * eights;
+    // By number, as in `bytes::pairs`.
     for (i, word) in words[..n].iter_mut().enumerate() {
         *word = put::<QUICK, LETTERS>(row, LETTERS * i, y[i], p[i], q[i], k);
     }
@@ -110,8 +108,7 @@ fn block<const QUICK: bool>(
     pixels: Pixels,
 )
     requires fits { arrays_fit pixels.letters (8 * eights) (8 * eights) row.old y.now scratch.old }
-    requires quick { QUICK ≡ true → Quick pixels.k × small_columns (8 * eights) y.now scratch.old.p scratch.old.q }
-    requires any { QUICK ≡ false → Words pixels.k }
+    requires kernel { Chosen QUICK pixels.k (small_columns (8 * eights) y.now scratch.old.p scratch.old.q) }
     ensures row { row.new ≡ array_letters pixels y.now scratch.old row.old }
     ensures counts { Filled (8 * eights) (pixel_words pixels.k y.now scratch.old.p scratch.old.q) scratch.new.words }
 {

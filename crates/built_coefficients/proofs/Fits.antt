@@ -25,17 +25,15 @@ inner_below kg range h w =
     let p : 10000 * kg ≤ 100000000 = omega arith in
     mul-le-mul p w
 
-luma_range : (d : ℕ) (r : YuvRange) → T (among d depths) → AtMostTwo (max_of d) (range_y d r)
-unfolding max_of range_y
-luma_range d Limited t = by_depth (λ d. AtMostTwo (max_of d) (range_y d Limited)) (omega arith, omega arith) (omega arith, omega arith) (omega arith, omega arith) d t
-luma_range d Full t = by_depth (λ d. AtMostTwo (max_of d) (range_y d Full)) (omega arith, omega arith) (omega arith, omega arith) (omega arith, omega arith) d t
+abbrev RangesFit : YuvRange → ℕ → Type 0
+RangesFit r d = AtMostTwo (max_of d) (range_y d r) × AtMostTwo (max_of d) (range_c d r)
 
-chroma_range : (d : ℕ) (r : YuvRange) → T (among d depths) → AtMostTwo (max_of d) (range_c d r)
-unfolding max_of range_c
-chroma_range d Limited t = by_depth (λ d. AtMostTwo (max_of d) (range_c d Limited)) (omega arith, omega arith) (omega arith, omega arith) (omega arith, omega arith) d t
-chroma_range d Full t = by_depth (λ d. AtMostTwo (max_of d) (range_c d Full)) (omega arith, omega arith) (omega arith, omega arith) (omega arith, omega arith) d t
+ranges_fit : (d : ℕ) (r : YuvRange) → T (among d depths) → RangesFit r d
+unfolding max_of range_y range_c
+ranges_fit d Limited t = by_depth (RangesFit Limited) (search arith) (search arith) (search arith) d t
+ranges_fit d Full t = by_depth (RangesFit Full) (search arith) (search arith) (search arith) d t
 
 -- of what the code finds of a depth and a range
 pub ranges : {m : ℕ} {found : YuvChromaRange} (d : ℕ) (r : YuvRange) → T (among d depths) → m ≡ max_of d → found ≡ chroma_range_of d r
     → AtMostTwo m found.range_y × AtMostTwo m found.range_uv
-ranges d r t e f = rw (e, f) (luma_range d r t, chroma_range d r t)
+ranges d r t e f = rw (e, f) (ranges_fit d r t)

@@ -1,5 +1,6 @@
 // The coefficients of the settings that the source stores rows for, precision 13, by formula: M/RY, 2(1−k)·M/RC and 2(1−k)(k/kg)·M/RC, times
 // 8192, each rounded to the nearest whole number. The weights kr, kb and kg = 1 − kr − kb are in ten-thousandths.
+// Depth, range, matrix and mode stay parameters, as in `kernel`, whose head says why.
 #![tactic(auto)]
 
 ghost use Rattle.std.specs.Prelude.{◌≡◌, ◌-◌, ◌*◌, ◌≤◌, ◌<◌, T};
@@ -9,11 +10,19 @@ ghost use Rattle.built_coefficients.specs.Built.{built_of, NearestRow, SmallWeig
 
 use yuv_support::{CbCrInverseTransform, YuvMode, YuvRange, YuvStandardMatrix};
 
-// kr and kb, in ten-thousandths.
+// kr and kb, in ten-thousandths: the f32 weights of `YuvBias` are not exact, and these are.
 #[derive(Clone, Copy)]
 struct Weights {
     kr: u64,
     kb: u64,
+}
+
+// M, and the range that it is divided by, RY or RC; M is at most twice as large.
+#[derive(Clone, Copy)]
+struct Scale {
+    max: u16,
+    range: u16,
+    ghost at_most_two: { AtMostTwo max range },
 }
 
 // 8192·num/den to the nearest whole number, halves up. The largest den is that of green, 10,000·10,000·65,535, and num is at most four times
@@ -26,33 +35,33 @@ fn to_nearest(num: u64, den: u64) -> u32
 }
 
 // M/RY.
-fn luma(max: u16, range_y: u16) -> u32
-    requires { AtMostTwo max range_y }
-    ensures { result ≡ nearest (8192 * max) range_y }
+fn luma(y: Scale) -> u32
+    ensures { result ≡ nearest (8192 * y.max) y.range }
 {
-    to_nearest(max as u64, range_y as u64)
+    to_nearest(y.max as u64, y.range as u64)
 }
 
 // 2(1−k)·M/RC: red by kr, blue by kb.
-fn outer(k: u64, max: u16, range_uv: u16) -> u32
-    requires { (k ≤ 10000) × AtMostTwo max range_uv }
-    ensures { result ≡ nearest (8192 * (2 * (10000 - k) * max)) (10000 * range_uv) }
+fn outer(k: u64, uv: Scale) -> u32
+    requires { k ≤ 10000 }
+    ensures { result ≡ nearest (8192 * (2 * (10000 - k) * uv.max)) (10000 * uv.range) }
 {
-    to_nearest(2 * (10000 - k) * max as u64, 10000 * range_uv as u64)
+    to_nearest(2 * (10000 - k) * uv.max as u64, 10000 * uv.range as u64)
 }
 
 // 2(1−k)(k/kg)·M/RC: green, what it loses by Cr with kr and by Cb with kb.
-fn inner(k: u64, kg: u64, max: u16, range_uv: u16) -> u32
-    requires { (k ≤ kg) × (0 < kg) × (kg ≤ 10000) × AtMostTwo max range_uv }
-    ensures { result ≡ nearest (8192 * (2 * (10000 - k) * k * max)) (10000 * kg * range_uv) }
+fn inner(k: u64, kg: u64, uv: Scale) -> u32
+    requires { (k ≤ kg) × (0 < kg) × (kg ≤ 10000) }
+    ensures { result ≡ nearest (8192 * (2 * (10000 - k) * k * uv.max)) (10000 * kg * uv.range) }
 {
     to_nearest(
-        2 * (10000 - k) * k * max as u64,
-        10000 * kg * range_uv as u64,
+        2 * (10000 - k) * k * uv.max as u64,
+        10000 * kg * uv.range as u64,
     )
 }
 
 // The five coefficients by the weights.
+#[tactic(auto, using(crate::proofs::Fits::ranges), unfolding(yuv_support::specs::Coefficients::exact_y, yuv_support::specs::Coefficients::exact_outer, yuv_support::specs::Coefficients::exact_inner))]
 fn rule(depth: u32, range: YuvRange, k: Weights) -> CbCrInverseTransform
     requires { T (among depth depths) × SmallWeights k }
     ensures { result ≡ rule_of depth range k.kr k.kb (10000 - k.kr - k.kb) }
@@ -62,12 +71,20 @@ fn rule(depth: u32, range: YuvRange, k: Weights) -> CbCrInverseTransform
     let kr = k.kr;
     let kb = k.kb;
     let kg = 10000 - kr - kb;
+    let y = Scale {
+        max,
+        range: chroma.range_y,
+    };
+    let uv = Scale {
+        max,
+        range: chroma.range_uv,
+    };
     CbCrInverseTransform {
-        y: luma(max, chroma.range_y),
-        cr: outer(kr, max, chroma.range_uv),
-        cb: outer(kb, max, chroma.range_uv),
-        g1: inner(kr, kg, max, chroma.range_uv),
-        g2: inner(kb, kg, max, chroma.range_uv),
+        y: luma(y),
+        cr: outer(kr, uv),
+        cb: outer(kb, uv),
+        g1: inner(kr, kg, uv),
+        g2: inner(kb, kg, uv),
     }
 }
 

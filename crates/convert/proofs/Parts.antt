@@ -8,7 +8,6 @@ use native.Mathlib.Omega.{arith}
 use lib.ListN.{length, take, drop, get_or}
 use Rattle.yuv_support.specs.declared.YuvBytesPacking.TheVariants.{LeastSignificantBytes}
 use Rattle.yuv_support.specs.declared.Settings.{Settings}
-use Rattle.yuv_support.specs.declared.Clipped.{Clipped}
 use Rattle.yuv_support.specs.Picture.{channels_of, row_of, element_of}
 use Rattle.yuv_support.specs.Counts.{clipped_row}
 use Rattle.yuv_support.specs.Questions.{part_of}
@@ -28,6 +27,16 @@ pub record RowsInside {X : Type 0} (image : YuvPlanarImage X) (p : ChromaRows) :
   pub u_other : image.u_stride * p.other + p.columns ≤ length image.u_plane.now
   pub v_near : image.v_stride * p.near + p.columns ≤ length image.v_plane.now
   pub v_other : image.v_stride * p.other + p.columns ≤ length image.v_plane.now
+
+-- row r, of which y and the chroma rows were lent, fits the kernel, which gives its letters and counts
+pub record RowLent {X : Type 0} (numbers : List X → List ℕ) (s : Settings) (image : YuvPlanarImage X) (k : Kernel) (r : ℕ) (y un uf vn vf : List X) : Type 0 where
+  pub fits : (row : List X) → length (numbers row) ≡ image.width * channels_of s.order
+      → OrderedFits s.order (numbers row) (numbers y) (numbers un) (numbers uf) (numbers vn) (numbers vf) image.width
+  pub row : (row : List X) → length (numbers row) ≡ image.width * channels_of s.order
+      → row_of (λ x. ordered_value k s.order s.mode image.width (numbers y) (numbers un) (numbers uf) (numbers vn) (numbers vf)) 0 (numbers row)
+      ≡ row_of (element_of s (frame numbers image)) r (numbers row)
+  pub counts : ordered_clipped k s.order s.mode image.width (numbers y) (numbers un) (numbers uf) (numbers vn) (numbers vf)
+      ≡ clipped_row s (frame numbers image) r
 
 module _ {X : Type 0} {number : X → ℕ} {numbers : List X → List ℕ} (are : (xs : List X) → numbers xs ≡ map number xs) where
   row_numbers : (stride r n : ℕ) (plane : List X) {part : List X} → part ≡ take n (drop (stride * r) plane) → numbers part ≡ part_of stride r n (numbers plane)
@@ -63,26 +72,19 @@ module _ {X : Type 0} {number : X → ℕ} {numbers : List X → List ℕ} (are 
           v_other = row_inside image.v_stride p.other p.columns image.v_plane.now i.v_other;
         }
 
-    -- what a row is made of, as it was lent
+    -- where no sample is above the largest of the width, nor that above the kernel's
     module _ (low : s.packing ≡ LeastSignificantBytes) {y un uf vn vf : List X}
         (ey : y ≡ take image.width (drop (image.y_stride * r) image.y_plane.now))
         (eun : un ≡ take p.columns (drop (image.u_stride * p.near) image.u_plane.now)) (euf : uf ≡ take p.columns (drop (image.u_stride * p.other) image.u_plane.now))
-        (evn : vn ≡ take p.columns (drop (image.v_stride * p.near) image.v_plane.now)) (evf : vf ≡ take p.columns (drop (image.v_stride * p.other) image.v_plane.now)) where
+        (evn : vn ≡ take p.columns (drop (image.v_stride * p.near) image.v_plane.now)) (evf : vf ≡ take p.columns (drop (image.v_stride * p.other) image.v_plane.now))
+        {most : ℕ} (known : most ≤ most_of s.depth) (hu : (j : ℕ) → get_or (numbers image.u_plane.now) j 0 ≤ most)
+        (hv : (j : ℕ) → get_or (numbers image.v_plane.now) j 0 ≤ most) where
       lent : Parts s (frame numbers image) r p (numbers y) (numbers un) (numbers uf) (numbers vn) (numbers vf)
       lent = lent_parts s image r p low ey eun euf evn evf
 
-      pub lent_fits : (row : List X) → length (numbers row) ≡ image.width * channels_of s.order
-          → OrderedFits s.order (numbers row) (numbers y) (numbers un) (numbers uf) (numbers vn) (numbers vf) image.width
-      lent_fits row l = parts_fit ready r exists is lent (numbers row) l
-
-      -- where no sample is above the largest of the width, nor that above the kernel's
-      module _ {most : ℕ} (known : most ≤ most_of s.depth) (hu : (j : ℕ) → get_or (numbers image.u_plane.now) j 0 ≤ most)
-          (hv : (j : ℕ) → get_or (numbers image.v_plane.now) j 0 ≤ most) where
-        pub lent_row : (row : List X) {done : List ℕ} → length (numbers row) ≡ image.width * channels_of s.order
-            → done ≡ row_of (λ x. ordered_value k s.order s.mode image.width (numbers y) (numbers un) (numbers uf) (numbers vn) (numbers vf)) 0 (numbers row)
-            → done ≡ row_of (element_of s (frame numbers image)) r (numbers row)
-        lent_row row l e = e ∙ row_of_parts ready r exists is lent (λ j. le_trans (hu j) known) (λ j. le_trans (hv j) known) (numbers row) l
-
-        pub lent_counts : {told : Clipped} → told ≡ ordered_clipped k s.order s.mode image.width (numbers y) (numbers un) (numbers uf) (numbers vn) (numbers vf)
-            → told ≡ clipped_row s (frame numbers image) r
-        lent_counts e = e ∙ clipped_of_parts ready r exists is lent (λ j. le_trans (hu j) known) (λ j. le_trans (hv j) known)
+      pub row_lent : RowLent numbers s image k r y un uf vn vf
+      row_lent = record {
+        fits = λ row l. parts_fit ready r exists is lent (numbers row) l;
+        row = λ row l. row_of_parts ready r exists is lent (λ j. le_trans (hu j) known) (λ j. le_trans (hv j) known) (numbers row) l;
+        counts = clipped_of_parts ready r exists is lent (λ j. le_trans (hu j) known) (λ j. le_trans (hv j) known);
+      }

@@ -100,9 +100,10 @@ module _ {X : Type 0} (numbers : List X → List ℕ) (number : X → ℕ) (s : 
       (b_told : number bt ≡ rounded (tail_of s.mode chroma_blue (at (numbers r.u.near.now) (half - 1)) (at (numbers r.u.far.now) (half - 1))))
       (r_told : number rt ≡ rounded (tail_of s.mode chroma_red (at (numbers r.v.near.now) (half - 1)) (at (numbers r.v.far.now) (half - 1))))
       (k : Kernel) where
-    pub source_row : (row : List X) {done : List ℕ} → done ≡ row_letters numbers number (record { k = k; letters = n }) width source row
-        → done ≡ row_of (λ x. samples_value numbers k s width r) 0 (numbers row)
-    source_row row told = rw (luma, arranged_value numbers number s.order s.mode width (numbers r.y.now) _ _ _ _ chroma n count k columns b_told r_told) at told
-
-    pub source_counts : {told : Clipped} → told ≡ row_clipped numbers number k width source → told ≡ samples_clipped numbers k s width r
-    source_counts told = rw (luma, arranged_clipped numbers number s.order s.mode width (numbers r.y.now) _ _ _ _ chroma n count k columns b_told r_told) at told
+    pub source_done : (row : List X) {done : List ℕ} {told : Clipped} → done ≡ row_letters numbers number (record { k = k; letters = n }) width source row
+        → told ≡ row_clipped numbers number k width source
+        → (done ≡ row_of (λ x. samples_value numbers k s width r) 0 (numbers row)) × (told ≡ samples_clipped numbers k s width r)
+    source_done row is told = (
+      rw (luma, arranged_value numbers number s.order s.mode width (numbers r.y.now) _ _ _ _ chroma n count k columns b_told r_told) at is,
+      rw (luma, arranged_clipped numbers number s.order s.mode width (numbers r.y.now) _ _ _ _ chroma n count k columns b_told r_told) at told,
+    )

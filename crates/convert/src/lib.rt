@@ -2,8 +2,8 @@
 // what converts one of them, and the rows of a picture whose samples are in the low bits.
 // `rgb` and `stride` are no `PlaneMut`, here and in the crates above that hand them on: a struct round
 // a `&mut` has to be taken apart and made again in each function. `image`, `s` and `rows` stay beside
-// them: what is asked of the packing differs (low bits here, high ones in `convert_high16`, either in
-// `elements`), so a struct of the five would carry what one crate asks.
+// them: `RowsFit` is of the destination too, and so no ghost field of a struct of the three, and
+// `LowRows` and `HighRows`, which are made of `image` and `s` at once, hold what else each needs.
 #![tactic(auto)]
 
 ghost use Rattle.std.specs.Prelude.{◌≡◌, ℕ, ◌*◌, ◌≤◌, ◌<◌, T, length, get_or};
@@ -27,13 +27,13 @@ use images::YuvPlanarImage;
 use interpolate::whole::interpolate;
 use numerics::Kernel;
 use sample::Sample;
-use sample::plane::Size;
 use yuv_support::{Clipped, Settings, YuvSourceChannels};
 
 // A width of samples, with the kernels of its depths.
 pub trait Convert: Block {
     // No sample is above the largest. It does nothing: the prover knows this of a slice that is a
-    // parameter, and not of one in a struct.
+    // parameter, and not of one in a struct. Each width has its empty body, since the prover knows the
+    // bound of u8 and of u16, and not of `Self`.
     fn samples_fit(row: &[Self])
         ensures { (i : ℕ) → get_or (Self.numbers row.now) i 0 ≤ Self.most };
 
@@ -102,7 +102,8 @@ fn arranged<'a, S: Sample>(
 }
 
 // One row in a channel order. The order is looked at here, outside the loops: blue goes first by
-// exchanging U and V. Cr's tail goes by the mode.
+// exchanging U and V. Cr's tail goes by the mode. That `row`, `samples` and `scratch` are no struct is
+// as in `interpolate`, whose head says why.
 pub fn interpolate_row<S: Block>(
     row: &mut [S],
     samples: &RowSamples<'_, S>,
@@ -197,6 +198,7 @@ pub fn convert_each<S: Sample, C: RowConverter<S>>(
 {
     let end = rows.first + rows.count;
     let mut clipped = Clipped { below: 0, above: 0 };
+    // By number, which `convert_row` takes; of what a loop over `chunks_mut` writes nothing is known.
     for r in rows.first..end {
         let at = stride as usize * r as usize;
         let x = converter.convert_row(&mut rgb[at..at + n], r);
@@ -229,11 +231,7 @@ impl<'a, S: Convert> RowConverter<S> for LowRows<'a, S> {
         let image = self.image;
         S::samples_fit(image.u_plane);
         S::samples_fit(image.v_plane);
-        let size = Size {
-            width: image.width,
-            height: image.height,
-        };
-        let p = images::chroma_rows(self.s.sampling, size, r);
+        let p = images::chroma_rows(self.s.sampling, image.size(), r);
         let y = images::row(image.y_plane, image.y_stride, r, image.width);
         let un = images::row(image.u_plane, image.u_stride, p.near, p.columns);
         let uf = images::row(image.u_plane, image.u_stride, p.other, p.columns);

@@ -3,7 +3,6 @@
 use mathlib.Core.Path.{◌≡◌, sym, ◌∙◌}
 use mathlib.Core.List.{List}
 use Prim.Native.Nat.{ℕ, ◌-◌, ◌*◌, ◌%◌, ◌≤◌, ◌<◌}
-use native.Mathlib.Omega.{arith}
 use Rattle.std.specs.Prelude.{Some, None}
 use lib.ListN.{length, take, get_or}
 use Rattle.yuv_support.specs.declared.YuvBytesPacking.TheVariants.{MostSignificantBytes}
@@ -21,7 +20,7 @@ use Rattle.numerics.specs.declared.Kernel.{Kernel}
 use Rattle.numerics.specs.Kernel.{Words}
 use Rattle.kernel.specs.Kernels.{most_of}
 use Rattle.kernel.specs.Ordered.{ordered_value, ordered_clipped, Ready}
-use Rattle.kernel.proofs.Frames.{Parts, row_of_parts, clipped_of_parts, words_most}
+use Rattle.kernel.proofs.Frames.{Parts, columns_are, row_of_parts, clipped_of_parts, words_most}
 use Rattle.convert_high16.specs.declared.HeldRows.{HeldRows}
 use Rattle.convert_high16.specs.Held.{divided_by, held_row, Held, BothHeld, ChromaHeld}
 use Rattle.convert_high16.proofs.Held.{divided_samples, in_place}
@@ -34,16 +33,13 @@ kept e h = rw e h
 -- of the chroma rows p that the code finds
 module _ {s : Settings} {f : Frame} {k : Kernel} (ready : Ready s f k) (row : ℕ) {p : ChromaRows} (inside : row < f.height)
     (is : p ≡ chroma_rows s.sampling f.width f.height row) where
-  pub columns_are : p.columns ≡ chroma_width f.width
-  columns_are = rw is
-
   pub neighbours : p.near % 2 ≡ p.other % 2 → p.near ≡ p.other
   neighbours = rw is (near_other s.sampling f.height row inside)
 
   -- rows held, by the number of columns
   by_columns : {n : ℕ} (stride : ℕ) (plane : List ℕ) (held : HeldRows n) → Held (16 - s.depth) (chroma_width f.width) stride plane held
       → Held (16 - s.depth) p.columns stride plane held
-  by_columns stride plane held h = rw columns_are h
+  by_columns stride plane held h = rw (columns_are ready row inside is) h
 
   held_parts : {n : ℕ} (luma : List ℕ) (u v : HeldRows n) → s.packing ≡ MostSignificantBytes
       → take f.width luma ≡ divided_by (16 - s.depth) (part_of f.y_stride row f.width f.y)
@@ -88,7 +84,7 @@ module _ {s : Settings} {f : Frame} {k : Kernel} (ready : Ready s f k) (row : �
 
 -- no row is held at first
 none_named : {c : ℕ} → None ≡ Some c → ⊥
-none_named e = let z : ◌≡◌ {A = ℕ} 0 1 = cc in absurd (omega arith)
+none_named e = absurd (cc)
 
 pub none_held : {n : ℕ} (s : Settings) (f : Frame) (u v : HeldRows n) → u.even.number ≡ None → u.odd.number ≡ None → v.even.number ≡ None → v.odd.number ≡ None
     → ChromaHeld s f u v

@@ -2,9 +2,9 @@
 // once, by the width, then converted as any other row.
 // A chroma row serves up to four luma rows of 4:2:0, so it is held until a later one of its parity
 // takes its place.
-// `shift < 16` and `columns ≤ COLUMNS` stay clauses: of the seven functions that take `shift`, five are
-// below those of `Buffers`, and would take it all the same if it were a field there; and one size of
-// array serves every width up to it.
+// `shift < 16` and `columns ≤ COLUMNS` stay clauses: of the seven functions that take `shift`, five
+// are below those of `Buffers`, and would take it all the same if it were a field there; and one
+// size of array serves every width up to it.
 // `rgb`, `stride`, `image`, `s` and `rows` stay five parameters: the head of `convert` says why.
 #![tactic(auto)]
 
@@ -24,7 +24,7 @@ use blocks::chroma::Scratch;
 use convert::{Convert, NearAndFar, RowConverter, RowSamples, Rows, convert_each, interpolate_row};
 use images::{ChromaRows, YuvPlanarImage};
 use numerics::Kernel;
-use sample::plane::{Plane, Size};
+use sample::plane::Plane;
 use yuv_support::{Clipped, Settings};
 
 // A chroma row of a plane, unpacked, and its number; at first none stands here.
@@ -62,6 +62,7 @@ fn unpack(samples: &mut [u16], part: &[u16], shift: u32)
     requires { (shift < 16) × (length part.now ≤ length samples.old) }
     ensures { take (length part.now) samples.new ≡ divided_by shift part.now }
 {
+    // By number: of what a loop over a zip with `iter_mut` writes nothing is known.
     for (i, element) in part.iter().enumerate() {
         samples[i] = divided(*element, shift);
     }
@@ -70,7 +71,6 @@ fn unpack(samples: &mut [u16], part: &[u16], shift: u32)
 impl<const COLUMNS: usize> HeldRow<COLUMNS> {
     // None stands here.
     fn new() -> HeldRow<COLUMNS>
-        requires { COLUMNS ≤ 16384 }
         ensures { result.number ≡ None }
     {
         HeldRow {
@@ -96,7 +96,6 @@ impl<const COLUMNS: usize> HeldRow<COLUMNS> {
 
 impl<const COLUMNS: usize> HeldRows<COLUMNS> {
     fn new() -> HeldRows<COLUMNS>
-        requires { COLUMNS ≤ 16384 }
         ensures { (result.even.number ≡ None) × (result.odd.number ≡ None) }
     {
         HeldRows {
@@ -167,7 +166,6 @@ impl<const COLUMNS: usize> HeldRows<COLUMNS> {
 impl<const WIDTH: usize, const COLUMNS: usize> Buffers<WIDTH, COLUMNS> {
     // No chroma row is held.
     fn new() -> Buffers<WIDTH, COLUMNS>
-        requires { (WIDTH ≤ 16384) × (COLUMNS ≤ 16384) }
         ensures u { (result.u.even.number ≡ None) × (result.u.odd.number ≡ None) }
         ensures v { (result.v.even.number ≡ None) × (result.v.odd.number ≡ None) }
     {
@@ -209,16 +207,8 @@ impl<const WIDTH: usize, const COLUMNS: usize> Buffers<WIDTH, COLUMNS> {
         ensures v { HeldOf shift p.columns (v_of image.now) self.old.v
             → BothHeldOf shift p (v_of image.now) self.new.v }
     {
-        let u = Plane {
-            elements: image.u_plane,
-            stride: image.u_stride,
-        };
-        let v = Plane {
-            elements: image.v_plane,
-            stride: image.v_stride,
-        };
-        self.u.hold_both(u, p, shift);
-        self.v.hold_both(v, p, shift);
+        self.u.hold_both(image.u(), p, shift);
+        self.v.hold_both(image.v(), p, shift);
     }
 
     // The samples held of a luma row and of its chroma rows p.
@@ -241,7 +231,9 @@ impl<const WIDTH: usize, const COLUMNS: usize> Buffers<WIDTH, COLUMNS> {
     }
 }
 
-// A picture whose samples are in the high bits, of a width of up to WIDTH.
+// A picture whose samples are in the high bits, of a width of up to WIDTH. It has what `LowRows`
+// has, and buffers. A struct of what both have would say nothing of its own: what holds of the
+// picture and of the kernel differs, and `convert_row` names each member.
 #[derive(Drop)]
 struct HighRows<'a, const WIDTH: usize, const COLUMNS: usize> {
     image: &'a YuvPlanarImage<'a, u16>,
@@ -269,11 +261,7 @@ impl<'a, const WIDTH: usize, const COLUMNS: usize> RowConverter<u16>
         u16::samples_fit(image.u_plane);
         u16::samples_fit(image.v_plane);
         let shift = 16 - self.s.depth;
-        let size = Size {
-            width: image.width,
-            height: image.height,
-        };
-        let p = images::chroma_rows(self.s.sampling, size, r);
+        let p = images::chroma_rows(self.s.sampling, image.size(), r);
         self.buffers.hold_chroma(image, p, shift);
         self.buffers.unpack_luma(image, r, shift);
         let samples = self.buffers.samples(p, image.width);
@@ -283,6 +271,8 @@ impl<'a, const WIDTH: usize, const COLUMNS: usize> RowConverter<u16>
 }
 
 // Rows of a picture, with buffers for a width of up to WIDTH. All else in the destination is kept.
+// COLUMNS is bounded since a call over a type of such a size asks that it fits in memory; where the
+// size is that of the function's own result, as in each `new`, it is known.
 fn convert_within<const WIDTH: usize, const COLUMNS: usize>(
     rgb: &mut [u16],
     stride: u32,
@@ -294,8 +284,7 @@ fn convert_within<const WIDTH: usize, const COLUMNS: usize>(
     requires ready { Ready s (frame image.now) (kernel_of s) }
     requires high { s.packing ≡ MostSignificantBytes }
     requires fit { RowsFit s (frame image.now) stride rows.first rows.count rgb.old }
-    requires wide { (image.now.width ≤ WIDTH) × (WIDTH ≤ 2 * COLUMNS)
-        × (WIDTH ≤ 16384) × (COLUMNS ≤ 16384) }
+    requires wide { (image.now.width ≤ WIDTH) × (WIDTH ≤ 2 * COLUMNS) × (COLUMNS ≤ 16384) }
     ensures destination { rgb.new
         ≡ band s (frame image.now) stride rows.first rows.count rgb.old }
     ensures counts { result ≡ clipped_in s (frame image.now) rows.first rows.count }
@@ -312,8 +301,8 @@ fn convert_within<const WIDTH: usize, const COLUMNS: usize>(
 }
 
 // Rows of a picture whose samples are in the high bits, in settings that no question refuses. All
-// else in the destination is kept. Up to a width of 4096 the buffers are a quarter of what the widest
-// needs, so that a call of few rows clears less.
+// else in the destination is kept. Up to a width of 4096 the buffers are a quarter of what the
+// widest needs, so that a call of few rows clears less.
 pub fn convert_rows(
     rgb: &mut [u16],
     stride: u32,

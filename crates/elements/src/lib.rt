@@ -21,8 +21,8 @@ use convert::{Convert, Rows};
 use images::YuvPlanarImage;
 use yuv_support::{Clipped, Settings, YuvBytesPacking};
 
-// A trait of its own above `Convert`: u16 samples choose between the rows of two crates, and these
-// rows are written for any `Convert`.
+// A trait of its own above `Convert`: u16 samples choose between the rows of two crates, and each
+// of these uses `Convert`.
 pub trait Element: Convert {
     // What the distance asks of the samples of a frame.
     ghost asked: { Settings → Frame → Type 0 };

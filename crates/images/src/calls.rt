@@ -1,7 +1,7 @@
 // The questions of whole calls: of a conversion, of a band of rows, of the settings alone, and of the two readers.
 // Codes are numbers here, since questions 1 and 2 are asked of them. Codes, geometry, lengths and stride stay four parameters: C hands over
-// the four, and a picture has them as one (`YuvPlanarImage::check_conversion`). That the settings are `decoded codes` is said of each result:
-// a type that says it would have to hold the codes as well.
+// the codes and the stride, and a picture makes the geometry and the lengths (`YuvPlanarImage::check_conversion`). That the settings are
+// `decoded codes` is said of each result: a type that says it would have to hold the codes as well.
 ghost use Rattle.std.specs.Prelude.{◌≡◌, ◌≤◌, ◌<◌, ◌*◌, ◌∷◌, [], cond, leb, Ok, Err, IfOk, T};
 ghost use Rattle.yuv_support.specs.Settings.{among, sampling_of, order_of, depths};
 ghost use Rattle.yuv_support.specs.Picture.{channels_of};
@@ -158,10 +158,7 @@ fn conversion<D: Depths>(
     ensures settings { IfOk result (λ s. s ≡ decoded codes) }
 {
     let s = decode::<D>(codes)?;
-    let size = Size {
-        width: image.width,
-        height: image.height,
-    };
+    let size = Size::from(image);
     check_sides(size)?;
     let rgb = Buffer {
         length: lengths.rgb,

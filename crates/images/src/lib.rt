@@ -20,7 +20,8 @@ pub use crate::planes::{ChromaPlane, check_constraints};
 use sample::plane::{Plane, Size};
 use yuv_support::{YuvChromaSubsampling, YuvSourceChannels};
 
-// How many elements the four buffers have. No `Buffer`s, which would have the strides too: C gives strides and lengths apart, the strides in `Geometry`.
+// How many elements the four buffers have; `rgb` is 0 where a call has no destination, and is not asked of there. No `Buffer`s, which would
+// have the strides too: C gives strides and lengths apart, the strides in `Geometry`.
 #[derive(Clone, Copy)]
 pub struct Lengths {
     pub y: u64,
@@ -88,7 +89,8 @@ pub fn near_row(sampling: YuvChromaSubsampling, height: u32, row: u32) -> u32
 }
 
 // The far chroma row of a luma row; where it blends only one chroma row, that one again.
-// Apart from `near_row`, whose arms are these exchanged: one function for both would need a flag for the row that is wanted.
+// Apart from `near_row`, which the readers call alone, as its definition is. `sampling`, `height` and `row` are the parameters of both
+// definitions, and no struct: `chroma_rows` alone has the width too.
 #[tactic(auto, using(crate::proofs::Rows::other_of_even, crate::proofs::Rows::other_of_odd, crate::proofs::Rows::other_of_422))]
 fn other_row(sampling: YuvChromaSubsampling, height: u32, row: u32) -> u32
     requires { row < height }
@@ -125,7 +127,8 @@ pub fn chroma_rows(sampling: YuvChromaSubsampling, size: Size, row: u32) -> Chro
     }
 }
 
-// The first n elements of a row of a plane.
+// The first n elements of a row of a plane. A public function, which stays beside `Plane::row`: it takes a plane and its stride apart, as
+// `YuvPlanarImage` has them.
 pub fn row<T: Copy>(plane: &[T], stride: u32, row: u32, n: u32) -> &[T]
     requires { stride * row + n ≤ length plane.now }
     ensures { result.now ≡ take n (drop (stride * row) plane.now) }

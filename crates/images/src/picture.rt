@@ -1,4 +1,7 @@
-// A planar picture: three lent planes with their strides, and the sides of the luma plane. Slices beside strides and no `Plane`s, as in the source.
+// A planar picture: three lent planes with their strides, and the sides of the luma plane. Slices beside strides and no `Plane`s: document 01
+// has slices beside a struct of sides and strides. C hands these over, and `with_planes` joins them.
+// A destination is asked of by its length and its stride, and no `Buffer`: the length goes into `Lengths`, and the stride stays. That the
+// settings are `decoded codes` is said of each result, as in `calls`, whose head says why.
 ghost use Rattle.std.specs.Prelude.{◌≡◌, ◌≤◌, length, IfOk};
 ghost use Rattle.yuv_support.specs.Settings.{among};
 ghost use Rattle.yuv_support.specs.Questions.{verdict, decoded, questions_of, band_questions};
@@ -8,7 +11,7 @@ ghost use Rattle.images.specs.Lent.{geometry, lengths_with};
 
 use crate::{Lengths, calls, planes};
 use sample::Sample;
-use sample::plane::Plane;
+use sample::plane::{Plane, Size};
 use yuv_error::YuvError;
 use yuv_support::{Codes, Geometry, Settings, YuvChromaSubsampling};
 
@@ -57,6 +60,46 @@ impl<'a, S: Sample> YuvPlanarImage<'a, S> {
         }
     }
 
+    // The sides of the luma plane.
+    pub fn size(&self) -> Size
+        ensures { result ≡ record { width = self.now.width; height = self.now.height } }
+    {
+        Size::from(self.geometry())
+    }
+
+    // The luma plane as it is lent, with its stride.
+    pub fn y(&self) -> Plane<'a, S>
+        ensures elements { result.elements.now ≡ self.now.y_plane.now }
+        ensures stride { result.stride ≡ self.now.y_stride }
+    {
+        Plane {
+            elements: self.y_plane,
+            stride: self.y_stride,
+        }
+    }
+
+    // The plane U as it is lent, with its stride.
+    pub fn u(&self) -> Plane<'a, S>
+        ensures elements { result.elements.now ≡ self.now.u_plane.now }
+        ensures stride { result.stride ≡ self.now.u_stride }
+    {
+        Plane {
+            elements: self.u_plane,
+            stride: self.u_stride,
+        }
+    }
+
+    // The plane V as it is lent, with its stride.
+    pub fn v(&self) -> Plane<'a, S>
+        ensures elements { result.elements.now ≡ self.now.v_plane.now }
+        ensures stride { result.stride ≡ self.now.v_stride }
+    {
+        Plane {
+            elements: self.v_plane,
+            stride: self.v_stride,
+        }
+    }
+
     // The lengths of the planes, with that of a destination.
     pub fn lengths(&self, rgb: usize) -> Lengths
         ensures { result ≡ lengths_with self.now rgb }
@@ -77,7 +120,8 @@ impl<'a, S: Sample> YuvPlanarImage<'a, S> {
         planes::check_constraints(subsampling, self.geometry(), self.lengths(0))
     }
 
-    // Questions 1 to 13 of a conversion into a destination of `rgb` elements, strided by `rgb_stride`: the settings, or the error of the first "no".
+    // Questions 1 to 13 of a conversion into a destination of `rgb` elements, strided by `rgb_stride`: the settings, or the error of the
+    // first "no".
     pub fn check_conversion(
         &self,
         codes: Codes,

@@ -89,10 +89,7 @@ pub fn check_constraints(
         length: lengths.v,
         stride: image.v_stride,
     };
-    let size = Size {
-        width: image.width,
-        height: image.height,
-    };
+    let size = Size::from(image);
     Channel::Y.check(y, size)?;
     check_chroma_channels(sampling, size, u, v)
 }

@@ -5,7 +5,7 @@ use mathlib.Core.List.{List}
 use Prim.Native.Nat.{ℕ, ◌+◌, ◌-◌, ◌*◌, ◌≤◌, ◌<◌}
 use native.Mathlib.Omega.{arith}
 use borrow.Rule.Slice.PartMut.{put_mid}
-use lib.ListN.{length, take, drop}
+use lib.ListN.{length}
 use Rattle.std.specs.Prelude.{map}
 use Rattle.yuv_support.specs.declared.Clipped.{Clipped}
 use Rattle.yuv_support.specs.Picture.{row_of}
@@ -18,19 +18,17 @@ use Rattle.blocks.specs.declared.chroma.Source.{Source}
 use Rattle.blocks.specs.declared.chroma.Pixels.{Pixels}
 use Rattle.blocks.specs.Parts.{part_chroma, after}
 use Rattle.blocks.specs.Source.{groups_fit, begun_letters, clipped_after}
+use Rattle.interpolate.proofs.Lent.{lent}
 use Rattle.interpolate.proofs.Moved.{group_row, group_counted}
 
 module _ {X : Type 0} {number : X → ℕ} {numbers : List X → List ℕ} (are : (xs : List X) → numbers xs ≡ map number xs)
     (pixels : Pixels) (s : Source X) (from e : ℕ) {samples to done : ℕ} {row : List X} (f : groups_fit numbers pixels.letters row s (from + 8 * e) samples)
     (r : Reach (from + 8 * e) samples to) (hd : from ≤ done) (hd' : done < from + 8 * e) where
-  abbrev lent : ℕ → ℕ → List X → List ℕ
-  lent a b xs = numbers (take (b - a) (drop a xs))
-
   abbrev luma : ℕ → ℕ
-  luma = at (lent (2 * from) (2 * (from + 8 * e)) s.y.now)
+  luma = at (lent are (2 * from) (2 * (from + 8 * e)) s.y.now)
 
   abbrev chroma : ChromaRows X → ℕ → ℕ
-  chroma rows = part_chroma (lent from to rows.near.now) (lent from to rows.far.now) (number rows.tail)
+  chroma rows = part_chroma (lent are from to rows.near.now) (lent are from to rows.far.now) (number rows.tail)
 
   abbrev of_row : ChromaRows X → ℕ → ℕ
   of_row rows = tailed samples (numbers rows.near.now) (numbers rows.far.now) (number rows.tail)
@@ -42,19 +40,19 @@ module _ {X : Type 0} {number : X → ℕ} {numbers : List X → List ℕ} (are 
   end = pixels.letters * (2 * (from + 8 * e))
 
   -- the parts, as numbers
-  y_is : lent (2 * from) (2 * (from + 8 * e)) s.y.now ≡ cut (2 * from) (2 * (from + 8 * e)) (numbers s.y.now)
+  y_is : lent are (2 * from) (2 * (from + 8 * e)) s.y.now ≡ cut (2 * from) (2 * (from + 8 * e)) (numbers s.y.now)
   y_is = numbers_part are (2 * (from + 8 * e) - 2 * from) (2 * from) s.y.now
 
-  pn_is : lent from to s.first.near.now ≡ cut from to (numbers s.first.near.now)
+  pn_is : lent are from to s.first.near.now ≡ cut from to (numbers s.first.near.now)
   pn_is = numbers_part are (to - from) from s.first.near.now
 
-  pf_is : lent from to s.first.far.now ≡ cut from to (numbers s.first.far.now)
+  pf_is : lent are from to s.first.far.now ≡ cut from to (numbers s.first.far.now)
   pf_is = numbers_part are (to - from) from s.first.far.now
 
-  qn_is : lent from to s.third.near.now ≡ cut from to (numbers s.third.near.now)
+  qn_is : lent are from to s.third.near.now ≡ cut from to (numbers s.third.near.now)
   qn_is = numbers_part are (to - from) from s.third.near.now
 
-  qf_is : lent from to s.third.far.now ≡ cut from to (numbers s.third.far.now)
+  qf_is : lent are from to s.third.far.now ≡ cut from to (numbers s.third.far.now)
   qf_is = numbers_part are (to - from) from s.third.far.now
 
   first_part : (c : ℕ) → c < 2 * (8 * e) → tailed (length (cut from to (numbers s.first.near.now))) (cut from to (numbers s.first.near.now)) (cut from to (numbers s.first.far.now)) (number s.first.tail) c ≡ of_row s.first (2 * from + c)
@@ -63,7 +61,7 @@ module _ {X : Type 0} {number : X → ℕ} {numbers : List X → List ℕ} (are 
   third_part : (c : ℕ) → c < 2 * (8 * e) → tailed (length (cut from to (numbers s.third.near.now))) (cut from to (numbers s.third.near.now)) (cut from to (numbers s.third.far.now)) (number s.third.tail) c ≡ of_row s.third (2 * from + c)
   third_part = tailed_part (numbers s.third.near.now) (numbers s.third.far.now) (number s.third.tail) from (8 * e) samples to r f.third_near
 
-  pub grouped_row : {ys : List X} → numbers ys ≡ row_of (λ r. row_value pixels.k pixels.letters luma (chroma s.first) (chroma s.third)) 0 (lent begin end row)
+  pub grouped_row : {ys : List X} → numbers ys ≡ row_of (λ r. row_value pixels.k pixels.letters luma (chroma s.first) (chroma s.third)) 0 (lent are begin end row)
       → (row₀ : List ℕ) → begun_letters numbers number pixels samples s row₀ row done
       → begun_letters numbers number pixels samples s row₀ (put_mid begin (end - begin) row ys) (from + 8 * e)
   grouped_row {ys} told row₀ b =

@@ -6,18 +6,18 @@ use Prim.Native.Nat.{ℕ, ◌+◌, ◌-◌, ◌*◌, ◌≤◌}
 use native.Mathlib.Omega.{arith}
 use lib.ListN.{length, take, drop}
 use Rattle.std.specs.Prelude.{map}
+use Rattle.yuv_support.proofs.Rows.{part_length}
 use Rattle.sample.proofs.Numbers.{numbers_part}
 use Rattle.numerics.specs.Row.{GroupsFit, Reach}
-use Rattle.numerics.proofs.Row.{part_long}
 use Rattle.blocks.specs.Parts.{PartsFit}
 
 module _ {X : Type 0} {number : X → ℕ} {numbers : List X → List ℕ} (are : (xs : List X) → numbers xs ≡ map number xs) where
   -- the elements from place a to place b
-  abbrev lent : ℕ → ℕ → List X → List ℕ
+  abbrev pub lent : ℕ → ℕ → List X → List ℕ
   lent a b xs = numbers (take (b - a) (drop a xs))
 
   lent_long : (a b : ℕ) (xs : List X) → b ≤ length (numbers xs) → length (lent a b xs) ≡ b - a
-  lent_long a b xs h = rw (numbers_part are (b - a) a xs) (part_long a b (numbers xs) h)
+  lent_long a b xs h = rw (numbers_part are (b - a) a xs) (part_length a (b - a) (numbers xs) (omega arith))
 
   pub lent_fit : (from to : ℕ) {n e samples : ℕ} (row y pn pf qn qf : List X)
       → GroupsFit n (numbers row) (numbers y) (numbers pn) (numbers pf) (numbers qn) (numbers qf) (from + 8 * e) samples → e ≤ 32 → Reach (from + 8 * e) samples to

@@ -9,9 +9,10 @@ use native.Mathlib.Omega.{arith}
 use borrow.Rule.Slice.PartMut.{put_mid}
 use lib.ListN.{length}
 use Rattle.yuv_support.specs.Picture.{row_of}
+use Rattle.yuv_support.proofs.Rows.{part_at}
 use Rattle.numerics.specs.declared.Kernel.{Kernel}
 use Rattle.numerics.specs.Row.{row_value, at, clipped_over, Begun}
-use Rattle.numerics.proofs.Row.{value_shifted, begun_part, part_at}
+use Rattle.numerics.proofs.Row.{value_shifted, begun_part}
 use Rattle.numerics.proofs.Parts.{cut}
 use Rattle.numerics.proofs.Clips.{clipped_as}
 use Rattle.numerics.proofs.Choice.{some_letters}
@@ -23,7 +24,7 @@ module _ (k : Kernel) (n : ℕ) (l : (n ≡ 3) ⊎ (n ≡ 4)) (y : List ℕ) (P 
   end = from + 8 * e
 
   luma_moved : (c : ℕ) → c < 2 * (8 * e) → at (cut (2 * from) (2 * end) y) c ≡ at y (2 * from + c)
-  luma_moved c h = part_at (2 * from) (2 * end) y c (omega arith)
+  luma_moved c h = part_at (2 * from) (2 * end - 2 * from) y c (omega arith)
 
   pub group_row : {row₀ row ys : List ℕ} → Begun (row_value k n (at y) P Q) row₀ row (n * (2 * done)) → n * (2 * end) ≤ length row₀
       → ys ≡ row_of (λ r. row_value k n (at (cut (2 * from) (2 * end) y)) P' Q') 0 (cut (n * (2 * from)) (n * (2 * end)) row)

@@ -10,10 +10,11 @@ use lib.ListN.{length, take}
 use lib.Seq.{get_or-take, length-take-le}
 use Rattle.std.specs.Prelude.{map}
 use Rattle.std.specs.Int.{div_ceil}
+use Rattle.std.proofs.lemmas.Bool.{cases_lt}
 use Rattle.yuv_support.specs.declared.Clipped.{Clipped}
 use Rattle.yuv_support.specs.Blend.{chroma_width}
 use Rattle.yuv_support.specs.Picture.{up_to}
-use Rattle.yuv_support.proofs.Overlay.{below_or_not, overlay_at, value_at}
+use Rattle.yuv_support.proofs.Overlay.{overlay_at, value_at}
 use Rattle.sample.proofs.Numbers.{numbers_length, numbers_take}
 use Rattle.numerics.specs.Row.{at, pair_chroma, tailed, row_chroma, Begun}
 use Rattle.numerics.proofs.Row.{begun_filled}
@@ -40,7 +41,7 @@ module _ {X : Type 0} {number : X → ℕ} {numbers : List X → List ℕ} (are 
 
   narrow_chroma : (width : ℕ) (near far : List ℕ) (v : X) {xs : List ℕ} → Begun (pair_chroma near far) (numbers (sixteen v)) xs (2 * pairs_of width) → width ≤ 16
       → (c : ℕ) → c < width → at xs c ≡ row_chroma width near far (number v) c
-  narrow_chroma width near far v {xs} b w c h = by_place (below_or_not c (2 * pairs_of width))
+  narrow_chroma width near far v {xs} b w c h = by_place (cases_lt c (2 * pairs_of width))
     where
       long : length (numbers (sixteen v)) ≡ 16
       long = numbers_length are (sixteen v)
@@ -52,8 +53,8 @@ module _ {X : Type 0} {number : X → ℕ} {numbers : List X → List ℕ} (are 
   -- the pixels of such a row, of luma and of chroma p and q, are those of the whole row
   module _ (pixels : Pixels) (s : Source X) {width half : ℕ} {row₀ : List X} (f : row_fits numbers pixels.letters row₀ s width)
       (is : half ≡ div_ceil width 2) (few : chroma_width width ≤ 8) {p q : List X}
-      (first : blended numbers s.first.near.now s.first.far.now (sixteen s.first.tail) p (half - 1))
-      (third : blended numbers s.third.near.now s.third.far.now (sixteen s.third.tail) q (half - 1)) where
+      (first : blended numbers s.first (sixteen s.first.tail) p (half - 1))
+      (third : blended numbers s.third (sixteen s.third.tail) q (half - 1)) where
     pairs_are : half - 1 ≡ pairs_of width
     pairs_are = omega (arith, is)
 

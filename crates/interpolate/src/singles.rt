@@ -10,7 +10,7 @@ use blocks::chroma::Pixels;
 use sample::{read, write};
 use yuv_support::Clipped;
 
-// The letters of one pixel, from a place on.
+// The letters of one pixel, from a place on. A row and a place in it, as in `blocks::bytes`, whose line says why.
 fn single<S: Block>(row: &mut [S], place: usize, y: u16, p: u16, q: u16, pixels: Pixels) -> Clipped
     requires kernel { S.kernel pixels.k }
     requires letters { (pixels.letters ≡ 3) ⊎ (pixels.letters ≡ 4) }
@@ -41,6 +41,7 @@ pub fn singles<S: Block>(row: &mut [S], y: &[S], p: &[S], q: &[S], pixels: Pixel
     ensures counts { result ≡ pixels_clipped S.numbers pixels.k y.now p.now q.now }
 {
     let mut clipped = Clipped { below: 0, above: 0 };
+    // p and q go by the column, which the place needs too: a zip of the three rows would have the column beside it, and be no shorter.
     for (c, luma) in y.iter().enumerate() {
         let place = pixels.letters * c;
         let one = single(row, place, luma.to_u16(), read(p, c), read(q, c), pixels);

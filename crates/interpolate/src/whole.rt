@@ -10,6 +10,7 @@ use blocks::chroma::{Pixels, Scratch, Source, blend_any};
 use yuv_support::Clipped;
 
 // A row of fewer than 8 pairs before its tail. The arrays begin as the tail's chroma, and the pairs' is put over it.
+// Arrays, here and below, since the library uses no heap.
 fn narrow<S: Block>(row: &mut [S], source: &Source<'_, S>, width: usize, pixels: Pixels) -> Clipped
     requires kernel { S.kernel pixels.k }
     requires fits { row_fits S.numbers pixels.letters row.old source.now width }
@@ -23,8 +24,8 @@ fn narrow<S: Block>(row: &mut [S], source: &Source<'_, S>, width: usize, pixels:
     let third = &source.third;
     let mut p = [first.tail; 16];
     let mut q = [third.tail; 16];
-    blend_any(&mut p, first.near, first.far, pairs, half);
-    blend_any(&mut q, third.near, third.far, pairs, half);
+    blend_any(&mut p, first, pairs, half);
+    blend_any(&mut q, third, pairs, half);
     singles(row, &source.y[..width], &p, &q, pixels)
 }
 

@@ -2,6 +2,9 @@
 -- Assumes nothing.
 use mathlib.Core.Path.{◌≡◌, refl}
 use lib.Ieee.{binary32, of_bits, of_int, round}
+use Rattle.yuv_support.specs.declared.YuvStandardMatrix.{YuvStandardMatrix}
+use Rattle.yuv_support.specs.declared.YuvBias.{YuvBias}
+use Rattle.yuv_support.specs.Settings.{weights_of, weight_r, weight_b}
 use Rattle.yuv_support.specs.Coefficients.{f32}
 
 -- the literals 0.0, 1.0, 2.0 and 8192.0
@@ -20,3 +23,8 @@ two_is = refl
 pub scale_is : of_bits binary32 0x4600_0000 ≡ f32 8192
 unfolding of_bits of_int round
 scale_is = refl
+
+-- the weights, opened with all that they are computed by
+unfoldable pub weights : YuvStandardMatrix → YuvBias
+unfolding weights_of weight_r weight_b of_bits round
+weights m = weights_of m

@@ -12,6 +12,7 @@ use yuv_support::{
 };
 
 // The weights of a matrix; Custom carries its own. A match, since each case has decimals of its own, which no derive says.
+#[tactic(auto, unfolding(crate::proofs::Constants::weights))]
 pub fn get_kr_kb(matrix: YuvStandardMatrix) -> YuvBias
     ensures { result ≡ weights_of matrix }
 {
@@ -72,7 +73,8 @@ pub fn get_inverse_transform(
     }
 }
 
-// Worked out from the bits, as document 01 has it: the rounding of the f32 whose bits these are, and which is no NaN. Below a half it is 0, from 2^31 on 2^31 − 1.
+// Worked out from the bits, as document 01 has it: the rounding of the f32 whose bits these are, and which is no NaN. Below a half it is 0,
+// from 2^31 on 2^31 − 1.
 fn round_bits(bits: u32) -> u32
     requires { T (not (nan_bits binary32 bits)) }
     ensures { result ≡ round_away (of_bits binary32 bits) }
@@ -123,7 +125,7 @@ pub fn to_integers(t: InverseTransformF32) -> CbCrInverseTransform
     }
 }
 
-// By the f32 path, whether or not there is a stored row.
+// By the f32 path, whether or not there is a stored row. Depth, range and matrix stay parameters, as in `kernel`, whose head says why.
 fn computed(depth: u32, range: YuvRange, matrix: YuvStandardMatrix) -> CbCrInverseTransform
     requires { T (among depth depths) }
     ensures { result ≡ computed_of depth range matrix }

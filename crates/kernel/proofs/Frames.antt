@@ -105,7 +105,7 @@ low_parts s low lent = record {
 -- of the chroma rows p that the code finds
 module _ {s : Settings} {f : Frame} {k : Kernel} (ready : Ready s f k) (row : ℕ) {p : ChromaRows} (inside : row < f.height)
     (is : p ≡ chroma_rows s.sampling f.width f.height row) where
-  columns_are : p.columns ≡ chroma_width f.width
+  pub columns_are : p.columns ≡ chroma_width f.width
   columns_are = rw is
 
   pub parts_in : PartsIn f row p
@@ -139,7 +139,7 @@ module _ {s : Settings} {f : Frame} {k : Kernel} (ready : Ready s f k) (row : �
     }
       where
         as_long : (stride r n : ℕ) (plane : List ℕ) {m : ℕ} → stride * r + n ≤ length plane → n ≡ m → m ≤ length (samples_of s.packing s.depth (part_of stride r n plane))
-        as_long stride r n plane h e = omega (arith, part_length stride r n plane h, samples_length s.packing s.depth (part_of stride r n plane))
+        as_long stride r n plane h e = omega (arith, part_length (stride * r) n plane (omega arith), samples_length s.packing s.depth (part_of stride r n plane))
 
   -- what the row functions make of the parts is the row of the definition, and what they tell is what is clipped in it
   module _ {y un uf vn vf : List ℕ} (parts : Parts s f row p y un uf vn vf) (hu : (i : ℕ) → get_or f.u i 0 ≤ most_of s.depth) (hv : (i : ℕ) → get_or f.v i 0 ≤ most_of s.depth) where
@@ -165,7 +165,7 @@ module _ {s : Settings} {f : Frame} {k : Kernel} (ready : Ready s f k) (row : �
     sample_at : {part : List ℕ} (stride r n : ℕ) (plane : List ℕ) → part ≡ samples_of s.packing s.depth (part_of stride r n plane)
         → (i : ℕ) → i < n → at part i ≡ sample s plane stride r i
     sample_at stride r n plane e i h =
-        rw e (samples_at s.packing s.depth (part_of stride r n plane) i ∙ ap (unpacked s.packing s.depth) (part_at stride r n plane i h))
+        rw e (samples_at s.packing s.depth (part_of stride r n plane) i ∙ ap (unpacked s.packing s.depth) (part_at (stride * r) n plane i h))
 
     luma_at_lem : (i : ℕ) → i < f.width → at y i ≡ luma_at s f row i
     luma_at_lem = sample_at f.y_stride row f.width f.y parts.y_is

@@ -81,7 +81,7 @@ module _ {s : Settings} {f : Frame} {first : ℕ} where
     pub counted_room : f.width ≤ 16384 → r < 16384 → (clipped.below + x.below ≤ 4294967295) × (clipped.above + x.above ≤ 4294967295)
     counted_room w h =
         let m = band_most s f first (r + 1 - first) in
-        let t = sides_most f.width (r + 1 - first) w (omega arith) in (
+        let t = sides_most 16384 f.width (r + 1 - first) w (omega arith) in (
           le_trans (rw (sym (ap (λ (z : Clipped). z.below) with_next)) at m.0) (le_trans t (omega arith)),
           le_trans (rw (sym (ap (λ (z : Clipped). z.above) with_next)) at m.1) (le_trans t (omega arith)),
         )

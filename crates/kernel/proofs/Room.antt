@@ -5,9 +5,9 @@ use Prim.Native.Nat.{ℕ, ◌+◌, ◌-◌, ◌*◌, ◌/◌, ◌≤◌}
 use native.Mathlib.Omega.{arith}
 use lib.Dec.{T}
 use Rattle.yuv_support.specs.declared.YuvRange.{YuvRange}
-use Rattle.yuv_support.specs.declared.YuvChromaRange.{YuvChromaRange}
+use Rattle.yuv_support.specs.declared.CbCrInverseTransform.{CbCrInverseTransform}
 use Rattle.yuv_support.specs.declared.YuvRange.TheVariants.{Limited, Full}
-use Rattle.yuv_support.specs.Settings.{among, depths, depths16, max_of, bias_y, bias_c, chroma_range_of}
+use Rattle.yuv_support.specs.Settings.{among, depths, depths16, max_of, bias_y, bias_c}
 use Rattle.yuv_support.proofs.Depths.{each_among, by_depth}
 use Rattle.inverse_transform.specs.Narrow.{Narrow}
 use Rattle.numerics.specs.declared.Kernel.{Kernel}
@@ -39,15 +39,6 @@ same_level o a b c h k = omega arith
 
 green_level : (o a b g : ℕ) → a + b ≤ o → o + g - a ≡ o - (a + b) + b + g
 green_level o a b g h = omega arith
-
--- the sums of the code are no larger than a u32, and what it takes away is no larger than what it is taken from
-pub record Sums (by bc offset ky kp gp gq kq : ℕ) : Type 0 where
-  pub scaled : offset * 8192 ≤ 4294967295
-  pub zero : offset * 8192 + 4096 ≤ 4294967295
-  pub first : ky * by + kp * bc ≤ offset * 8192 + 4096
-  pub green : offset * 8192 + 4096 + (gp + gq) * bc ≤ 4294967295
-  pub luma : ky * by ≤ offset * 8192 + 4096 + (gp + gq) * bc
-  pub third : ky * by + kq * bc ≤ offset * 8192 + 4096
 
 module _ (ky kp gp gq kq : ℕ) (n : Narrow (record { y = ky; cr = kp; cb = kq; g1 = gp; g2 = gq })) where
   abbrev RoomAt : YuvRange → ℕ → Type 0
@@ -119,16 +110,12 @@ module _ (ky kp gp gq kq : ℕ) (n : Narrow (record { y = ky; cr = kp; cb = kq; 
         level_green = rw (middle_is d t) (green_level (offset_of d * 8192 + 4096) (ky * bias_y d r) (kp * bias_c d) ((gp + gq) * bias_c d) m.first);
       }
 
--- with what the code finds for the biases and the offset
-pub sums_found : {ky kp gp gq kq : ℕ} (d : ℕ) (r : YuvRange) {found : YuvChromaRange} {offset : ℕ} → Narrow (record { y = ky; cr = kp; cb = kq; g1 = gp; g2 = gq }) → T (among d depths)
-    → found ≡ chroma_range_of d r → offset ≡ offset_of d → Sums found.bias_y found.bias_uv offset ky kp gp gq kq
-sums_found {ky} {kp} {gp} {gq} {kq} d r n t e f =
-    rw (e, f)
-    (let m = room ky kp gp gq kq n d r t in record {
-      scaled = omega (arith, m.top);
-      zero = omega (arith, m.top);
-      first = m.first;
-      green = omega (arith, m.top, m.green_bias);
-      luma = omega (arith, m.first);
-      third = m.third;
-    })
+-- the sums of the code are no larger than a u32, and what it takes away is no larger than what it is taken from
+abbrev pub Sums : CbCrInverseTransform → ℕ → YuvRange → Type 0
+Sums t d r =
+    let zero = offset_of d * 8192 + 4096 in
+    (t.y * bias_y d r + t.cr * bias_c d ≤ zero) × (t.y * bias_y d r + t.cb * bias_c d ≤ zero)
+    × (zero + (t.g1 + t.g2) * bias_c d ≤ 4294967295)
+
+pub sums : (t : CbCrInverseTransform) (d : ℕ) (r : YuvRange) → Narrow t → T (among d depths) → Sums t d r
+sums t d r n known = let m = room t.y t.cr t.g1 t.g2 t.cb n d r known in (m.first, m.third, omega (arith, m.top, m.green_bias))

@@ -1,4 +1,5 @@
-// The kernel that a conversion works with, from the settings' coefficients.
+// The kernel that a conversion works with, from the settings' coefficients. Depth and range, with the order or the matrix, stay parameters,
+// here, in `inverse_transform`, in `built_coefficients` and in `yuv_support`: they are those of the definitions, and are no whole `Settings`.
 #![tactic(auto)]
 
 ghost use Rattle.std.specs.Prelude.{◌≡◌, T};
@@ -19,6 +20,7 @@ fn offset_of(depth: u32) -> u32
 }
 
 // The kernel whose first letter has the coefficients cr and g1, and whose third has cb and g2.
+#[tactic(auto, using(crate::proofs::Room::sums), unfolding(crate::specs::Kernels::offset_of))]
 fn lettered_kernel(depth: u32, range: YuvRange, t: CbCrInverseTransform) -> Kernel
     requires known_depth { T (among depth depths) }
     requires narrow { Narrow t }

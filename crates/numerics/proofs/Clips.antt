@@ -7,12 +7,12 @@ use native.Mathlib.Omega.{arith}
 use lib.ListN.{length, take, drop}
 use Rattle.yuv_support.specs.declared.Clipped.{Clipped}
 use Rattle.yuv_support.specs.Counts.{total, unclipped, together}
+use Rattle.yuv_support.proofs.Rows.{part_length, part_at}
 use Rattle.yuv_support.proofs.Counts.{total_more, total_as, total_split, total_pairs, total_most, three_most}
 use Rattle.numerics.specs.declared.Kernel.{Kernel}
 use Rattle.numerics.specs.Kernel.{first_sum, green_sum, third_sum, below_at, above_at}
 use Rattle.numerics.specs.Row.{at, clipped_over, word_at, pair_word, Filled}
 use Rattle.numerics.proofs.Sums.{one_below, one_above}
-use Rattle.numerics.proofs.Row.{part_at, part_long}
 
 module _ (k : Kernel) (y p q : ℕ) where
   pub below_three : below_at k y p q ≤ 3
@@ -110,18 +110,18 @@ module _ (k : Kernel) (Y P Q : ℕ → ℕ) where
     part = take (m - a) (drop a ws)
 
     long : length part ≡ m - a
-    long = part_long a m ws h
+    long = part_length a (m - a) ws (omega arith)
 
     -- words of pixels
     pub columns_few : Filled m column_word ws → (j : ℕ) → j < length part → (at part j % 256 ≤ 6) × (at part j / 256 ≤ 6)
     columns_few f j l =
-        let e : at part j ≡ column_word (a + j) = part_at a m ws j (omega (arith, long)) ∙ f.value (a + j) (omega (arith, long)) in
+        let e : at part j ≡ column_word (a + j) = part_at a (m - a) ws j (omega (arith, long)) ∙ f.value (a + j) (omega (arith, long)) in
         rw e (omega (arith, (column_word_lem (a + j)).0, below_three k (Y (a + j)) (P (a + j)) (Q (a + j))), omega (arith, (column_word_lem (a + j)).1, above_three k (Y (a + j)) (P (a + j)) (Q (a + j))))
 
     pub columns_counted : Filled m column_word ws → counts_of part ≡ clipped_over k (λ c. Y (a + c)) (λ c. P (a + c)) (λ c. Q (a + c)) (m - a)
     unfolding clipped_over
     columns_counted f =
-        let e : (j : ℕ) → j < m - a → at part j ≡ column_word (a + j) = λ j l. part_at a m ws j l ∙ f.value (a + j) (omega arith) in
+        let e : (j : ℕ) → j < m - a → at part j ≡ column_word (a + j) = λ j l. part_at a (m - a) ws j l ∙ f.value (a + j) (omega arith) in
         let b : total (λ j. at part j % 256) (m - a) ≡ total (λ c. below_at k (Y (a + c)) (P (a + c)) (Q (a + c))) (m - a) =
         total_as _ _ (m - a) (λ j l. ap (λ (w : ℕ). w % 256) (e j l) ∙ (column_word_lem (a + j)).0) in
         let t : total (λ j. at part j / 256) (m - a) ≡ total (λ c. above_at k (Y (a + c)) (P (a + c)) (Q (a + c))) (m - a) =
@@ -132,7 +132,7 @@ module _ (k : Kernel) (Y P Q : ℕ → ℕ) where
     pub pairs_few : Filled m (pair_word k Y P Q) ws → (j : ℕ) → j < length part → (at part j % 256 ≤ 6) × (at part j / 256 ≤ 6)
     pairs_few f j l =
         let i = a + j in
-        let e : at part j ≡ pair_word k Y P Q i = part_at a m ws j (omega (arith, long)) ∙ f.value i (omega (arith, long)) in
+        let e : at part j ≡ pair_word k Y P Q i = part_at a (m - a) ws j (omega (arith, long)) ∙ f.value i (omega (arith, long)) in
         rw e (
           omega (arith, (pair_word_lem i).0, below_three k (Y (2 * i)) (P (2 * i)) (Q (2 * i)), below_three k (Y (2 * i + 1)) (P (2 * i + 1)) (Q (2 * i + 1))),
           omega (arith, (pair_word_lem i).1, above_three k (Y (2 * i)) (P (2 * i)) (Q (2 * i)), above_three k (Y (2 * i + 1)) (P (2 * i + 1)) (Q (2 * i + 1))),
@@ -141,7 +141,7 @@ module _ (k : Kernel) (Y P Q : ℕ → ℕ) where
     pub pairs_counted : Filled m (pair_word k Y P Q) ws → counts_of part ≡ clipped_over k (λ c. Y (2 * a + c)) (λ c. P (2 * a + c)) (λ c. Q (2 * a + c)) (2 * (m - a))
     unfolding clipped_over
     pairs_counted f =
-        let e : (j : ℕ) → j < m - a → at part j ≡ pair_word k Y P Q (a + j) = λ j l. part_at a m ws j l ∙ f.value (a + j) (omega arith) in
+        let e : (j : ℕ) → j < m - a → at part j ≡ pair_word k Y P Q (a + j) = λ j l. part_at a (m - a) ws j l ∙ f.value (a + j) (omega arith) in
         let s : (j : ℕ) → 2 * (a + j) ≡ 2 * a + 2 * j = λ j. omega arith in
         let s' : (j : ℕ) → 2 * a + 2 * j + 1 ≡ 2 * a + (2 * j + 1) = λ j. omega arith in
         let b : total (λ j. at part j % 256) (m - a) ≡ total (λ c. below_at k (Y (2 * a + c)) (P (2 * a + c)) (Q (2 * a + c))) (2 * (m - a)) =

@@ -7,9 +7,10 @@ use Prim.Native.Nat.{ℕ, ◌+◌, ◌-◌, ◌*◌, ◌/◌, ◌%◌, ◌≤◌
 use native.Mathlib.Omega.{arith}
 use borrow.Author.Tests.{lt-ltb, le-ltb}
 use lib.ListN.{length, set, take, drop}
-use Rattle.yuv_support.proofs.Overlay.{below_or_not}
+use Rattle.std.proofs.lemmas.Bool.{cases_lt}
+use Rattle.yuv_support.proofs.Rows.{part_length, part_at}
 use Rattle.numerics.specs.Row.{pair_chroma, tailed, Begun, Reach}
-use Rattle.numerics.proofs.Row.{begun_as, begun_more, part_at, part_long}
+use Rattle.numerics.proofs.Row.{begun_as, begun_more}
 
 -- the elements from place a to place b
 abbrev pub cut : ℕ → ℕ → List ℕ → List ℕ
@@ -24,7 +25,7 @@ module _ (near far : List ℕ) (from to c : ℕ) (h : c / 2 + 1 < to - from) whe
       let d : (2 * from + c) / 2 ≡ from + j = omega arith in
       let s : from + (j + 1) ≡ from + j + 1 = omega arith in
       let l : j < to - from = omega arith in
-      rw (r, d, part_at from to near j l, part_at from to near (j + 1) h, part_at from to far j l, part_at from to far (j + 1) h, s)
+      rw (r, d, part_at from (to - from) near j l, part_at from (to - from) near (j + 1) h, part_at from (to - from) far j l, part_at from (to - from) far (j + 1) h, s)
 
 -- ---- chroma of pairs of which the last may be the tail
 
@@ -50,7 +51,7 @@ module _ (near far : List ℕ) (tail some n samples : ℕ) (e : some + 1 ≡ sam
 module _ (near far : List ℕ) (tail from m samples to : ℕ) (r : Reach (from + m) samples to) (fits : samples ≤ length near) where
   pub tailed_part : (c : ℕ) → c < 2 * m → tailed (length (cut from to near)) (cut from to near) (cut from to far) tail c ≡ tailed samples near far tail (2 * from + c)
   unfolding tailed
-  tailed_part c h = rw (part_long from to near (let l : to ≤ length near = omega arith in l)) (by_place (below_or_not (c / 2 + 1) (to - from)))
+  tailed_part c h = rw (part_length from (to - from) near (omega arith)) (by_place (cases_lt (c / 2 + 1) (to - from)))
     where
       past : to - from ≤ c / 2 + 1 → (to ≡ from + m + 1) ⊎ (to ≡ samples) → samples ≤ (2 * from + c) / 2 + 1
       past hi (inl e) = omega arith
@@ -61,9 +62,3 @@ module _ (near far : List ℕ) (tail from m samples to : ℕ) (r : Reach (from +
           let l : (2 * from + c) / 2 + 1 < samples = omega arith in
           rw (lt-ltb (c / 2 + 1) (to - from) lo, lt-ltb ((2 * from + c) / 2 + 1) samples l) (chroma_part near far from to c lo)
       by_place (inr hi) = rw (le-ltb (c / 2 + 1) (to - from) hi, le-ltb ((2 * from + c) / 2 + 1) samples (past hi r.last))
-
--- ---- lengths of the parts
-
-module _ (from m : ℕ) where
-  pub luma_room : (xs : List ℕ) → 2 * (from + m) ≤ length xs → 2 * m ≤ length (cut (2 * from) (2 * (from + m)) xs)
-  luma_room xs h = rw (part_long (2 * from) (2 * (from + m)) xs h) (let l : 2 * m ≤ 2 * (from + m) - 2 * from = omega arith in l)

@@ -5,18 +5,21 @@ use mathlib.Core.Path.{◌≡◌, refl, sym, ap, ◌∙◌}
 use mathlib.Core.List.{List, [], ◌∷◌, ◌++◌}
 use mathlib.Core.Logic.{◌⊎◌, inl, inr}
 use Prim.Native.Nat.{ℕ, suc, ◌+◌, ◌-◌, ◌*◌, ◌/◌, ◌%◌, ◌≤◌, ◌<◌}
-use native.Mathlib.Nat.{add_comm, add-zero, div-lt_iff_lt-mul, add-mul-div_right, mul-add-mod_self_right}
+use native.Mathlib.Nat.{add-zero, mul-add-div, mul-add-mod_self_left}
 use native.Mathlib.Omega.{arith}
 use borrow.Author.Count.{below_more}
 use borrow.Author.Tests.{lt-ltb, le-ltb}
 use borrow.Rule.Slice.PartMut.{put_mid}
 use lib.Arith.{digits_div, digits_mod}
 use lib.Dec.{lit<}
-use lib.ListN.{length, get_or, set, take, drop, length-drop}
-use lib.Seq.{sets, get_or-take, get_or-drop, length-take-le, get_or-set_same, get_or-set_other}
+use lib.ListN.{length, get_or, set, take, drop}
+use lib.Seq.{sets, get_or-set_same, get_or-set_other}
+use Rattle.std.proofs.lemmas.Bool.{cases_lt}
+use Rattle.std.proofs.lemmas.Nat.{div_below}
 use Rattle.yuv_support.specs.Blend.{rounded}
 use Rattle.yuv_support.specs.Picture.{up_to, row_of}
-use Rattle.yuv_support.proofs.Overlay.{overlay_length, overlay_at, is_overlay, up_none, up_sets, value_at, Values, part_back, below_or_not}
+use Rattle.yuv_support.proofs.Overlay.{overlay_length, overlay_at, is_overlay, up_none, up_sets, value_at, Values, part_back}
+use Rattle.yuv_support.proofs.Rows.{part_length}
 use Rattle.numerics.specs.declared.Kernel.{Kernel}
 use Rattle.numerics.specs.Kernel.{letter_of}
 use Rattle.numerics.specs.Row.{row_value, at, column_of, across_at, pair_chroma, three, four, stored, Begun, Filled}
@@ -51,17 +54,8 @@ module _ (k : Kernel) (n : ℕ) (some : 0 < n) (Y P Q Y' P' Q' : ℕ → ℕ) (a
       → (x : ℕ) → x < n * m → row_value k n Y' P' Q' x ≡ row_value k n Y P Q (n * a + x)
   unfolding row_value
   value_shifted ey ep eq x h =
-      let c : x / n < m = (div-lt_iff_lt-mul some).1 (let l : x < m * n = omega arith in l) in
-      let s : n * a + x ≡ a * n + x = omega arith in
-      let d : (a * n + x) / n ≡ a + x / n = moved_div in
-      let r : (a * n + x) % n ≡ x % n = moved_mod in
-      rw (s, d, r, ey (x / n) c, ep (x / n) c, eq (x / n) c)
-    where
-      moved_div : (a * n + x) / n ≡ a + x / n
-      moved_div = ap (λ (z : ℕ). z / n) (add_comm (a * n) x) ∙ add-mul-div_right x a some ∙ add_comm (x / n) a
-
-      moved_mod : (a * n + x) % n ≡ x % n
-      moved_mod = mul-add-mod_self_right a n x
+      let c : x / n < m = div_below x n m some (omega arith) in
+      rw (mul-add-div some a x, mul-add-mod_self_left n a x, ey (x / n) c, ep (x / n) c, eq (x / n) c)
 
 -- ---- a row that was begun
 
@@ -90,7 +84,7 @@ module _ {g : ℕ → ℕ} {row₀ : List ℕ} where
       record { done = rw d.done (part_back (up_to c g) (up_to b g) row₀ ys a (b - a) (omega arith) long outside inside) }
     where
       part : length (take (b - a) (drop a row)) ≡ b - a
-      part = length-take-le (b - a) (drop a row) (simp length-drop (omega (arith, begun_length d)))
+      part = part_length a (b - a) row (omega (arith, begun_length d))
 
       long : length ys ≡ b - a
       long = ap length ey ∙ overlay_length _ 0 _ ∙ part
@@ -101,13 +95,6 @@ module _ {g : ℕ → ℕ} {row₀ : List ℕ} where
 
       inside : (x : ℕ) → x < b - a → get_or ys x 0 ≡ up_to b g (a + x) (get_or row₀ (a + x) 0)
       inside x l = rw (lt-ltb (a + x) b (omega arith), ey) (overlay_at _ _ x (omega (arith, part)) ∙ same x l)
-
--- an element of a part
-pub part_at : (a b : ℕ) (xs : List ℕ) (j : ℕ) → j < b - a → at (take (b - a) (drop a xs)) j ≡ at xs (a + j)
-part_at a b xs j h = get_or-take (b - a) (drop a xs) j 0 h ∙ get_or-drop a xs j 0
-
-pub part_long : (a b : ℕ) (xs : List ℕ) → b ≤ length xs → length (take (b - a) (drop a xs)) ≡ b - a
-part_long a b xs h = length-take-le (b - a) (drop a xs) (simp length-drop (omega arith))
 
 -- ---- one pixel more, and one pair
 
@@ -141,6 +128,7 @@ pair_more k n Y P Q j {row₀} {row} {row'} l b fits e =
     let m : n * (2 * j + 1) ≡ n * (2 * j) + n = omega arith in
     rw s (pixel_more k n Y P Q (2 * j + 1) l (pixel_more k n Y P Q (2 * j) l b (omega arith) refl) (rw m (omega arith)) (e ∙ parted ∙ rw m))
   where
+    -- as in sheet_writing/proofs/Write, which stands on no crate of ours
     sets_append : (vs ws xs : List ℕ) (i : ℕ) → sets xs i (vs ++ ws) ≡ sets (sets xs i vs) (i + length vs) ws
     sets_append [] ws xs i = rw add-zero
     sets_append (v ∷ vs) ws xs i =
@@ -175,7 +163,7 @@ begun_more {g} {xs₀} {xs} {c} {v} b h e = begun_sets (v ∷ []) b (omega arith
 
 pub begun_as : {g : ℕ → ℕ} (h : ℕ → ℕ) {xs₀ xs : List ℕ} {c : ℕ} → ((x : ℕ) → x < c → g x ≡ h x) → Begun g xs₀ xs c → Begun h xs₀ xs c
 begun_as {g} h {xs₀} {xs} {c} same b =
-    record { done = is_overlay (up_to c h) xs₀ xs (begun_length b) (λ x l. rw b.done (overlay_at (up_to c g) xs₀ x l ∙ by_place x (below_or_not x c))) }
+    record { done = is_overlay (up_to c h) xs₀ xs (begun_length b) (λ x l. rw b.done (overlay_at (up_to c g) xs₀ x l ∙ by_place x (cases_lt x c))) }
   where
     by_place : (x : ℕ) → (x < c) ⊎ (c ≤ x) → up_to c g x (get_or xs₀ x 0) ≡ up_to c h x (get_or xs₀ x 0)
     by_place x (inl lo) = rw (lt-ltb x c lo) (same x lo)
@@ -184,15 +172,12 @@ begun_as {g} h {xs₀} {xs} {c} same b =
 pub row_as : (g h : ℕ → ℕ) (xs : List ℕ) {m : ℕ} → length xs ≡ m → ((x : ℕ) → x < m → g x ≡ h x) → row_of (λ r. g) 0 xs ≡ row_of (λ r. h) 0 xs
 row_as g h xs long same = is_overlay (λ x old. h x) xs _ (overlay_length (λ x old. g x) 0 xs) (λ x l. overlay_at (λ x old. g x) xs x l ∙ same x (omega arith))
 
-pub column_of_lem : (n m x : ℕ) → 0 < n → x < n * m → x / n < m
-column_of_lem n m x some h = (div-lt_iff_lt-mul some).1 (let l : x < m * n = omega arith in l)
-
 pub value_as : (k : Kernel) (n m : ℕ) → 0 < n → (Y P Q Y' P' Q' : ℕ → ℕ)
     → ((c : ℕ) → c < m → Y' c ≡ Y c) → ((c : ℕ) → c < m → P' c ≡ P c) → ((c : ℕ) → c < m → Q' c ≡ Q c)
     → (x : ℕ) → x < n * m → row_value k n Y' P' Q' x ≡ row_value k n Y P Q x
 unfolding row_value
 value_as k n m some Y P Q Y' P' Q' ey ep eq x h =
-    let c = column_of_lem n m x some h in
+    let c = div_below x n m some (omega arith) in
     rw (ey (x / n) c, ep (x / n) c, eq (x / n) c)
 
 -- chroma from the sums of the columns is that of the rows

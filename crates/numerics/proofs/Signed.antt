@@ -8,12 +8,13 @@ use native.Mathlib.Nat.{lt_of_le_of_lt, mul-le-mul}
 use native.Mathlib.Omega.{arith}
 use borrow.Author.Tests.{ltb-true, ltb-false, lt-ltb, le-ltb}
 use lib.Dec.{ltb}
-use lib.IntN.{ℤ, pos, negsuc, ◌+ℤ◌, ◌-ℤ◌, ◌*ℤ◌}
+use lib.IntN.{ℤ, pos, negsuc, nat_abs, ◌+ℤ◌, ◌-ℤ◌, ◌*ℤ◌}
 use lib.Signed.{lt_z}
 use mir.Syntax.{w16, w32}
-use mir.Val.{SFits, to_z, of_z}
+use mir.Val.{SFits, to_z, of_z, bool_byte}
 use mir.Facts.{to_z_pos}
 use mir.ValLaws.{to_z-of_z}
+use Rattle.std.specs.Int.{int_min, int_max}
 use Rattle.yuv_support.specs.Component.{step, clamp}
 use Rattle.yuv_support.specs.Counts.{is_below, is_above}
 use Rattle.yuv_support.proofs.Sign.{Is, nat, plus, less, shift_is, step_is, mag_is, shifted_is, shifted_below, shifted_above}
@@ -105,6 +106,38 @@ module _ (r b o : ℕ) (hr : r ≤ 1073741823) (hb : b ≤ 1073741823) (ho : o �
       rw (base_read, to_z-of_z w32 (pos b -ℤ pos o) base_fits, to_z_pos w32 r')
 
 -- ---- the letter
+
+-- std's minimum, its cut, and its maximum with 0
+pub min_is : (a b : ℤ) → int_min a b ≡ min_z a b
+min_is (pos a) (pos b) = refl
+min_is (pos a) (negsuc b) = refl
+min_is (negsuc a) (pos b) = refl
+min_is (negsuc a) (negsuc b) = refl
+
+pub cut_is : (z : ℤ) → int_max (negsuc 32767) (int_min z (pos 32767)) ≡ cut z
+cut_is (pos n) = go (ltb 32767 n) refl
+  where
+    go : (t : Bool) → ltb 32767 n ≡ t → int_max (negsuc 32767) (cond (ltb 32767 n) (pos 32767) (pos n)) ≡ cond (ltb 32767 n) (pos 32767) (pos n)
+    go true e = rw e refl
+    go false e = rw e refl
+cut_is (negsuc n) = go (ltb 32767 n) refl
+  where
+    go : (t : Bool) → ltb 32767 n ≡ t → cond (ltb 32767 n) (negsuc 32767) (negsuc n) ≡ min_z (cond (ltb 32767 n) (negsuc 32767) (negsuc n)) (pos 32767)
+    go true e = rw e refl
+    go false e = rw e refl
+
+pub nat_is : (z : ℤ) → nat_abs (int_max z (pos 0)) ≡ nat_of z
+nat_is (pos n) = go (ltb 0 n) refl
+  where
+    go : (t : Bool) → ltb 0 n ≡ t → nat_abs (cond (ltb 0 n) (pos n) (pos 0)) ≡ n
+    go true e = rw e refl
+    go false e = let h : n ≤ 0 = ltb-false 0 n e in rw e (omega arith)
+nat_is (negsuc n) = refl
+
+-- a comparison as a number
+pub flag_is : (t : Bool) → bool_byte t ≡ cond t 1 0
+flag_is true = refl
+flag_is false = refl
 
 -- as the leaf makes it of a quotient
 module _ (max : ℕ) (m : max ≤ 4095) where

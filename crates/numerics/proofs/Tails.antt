@@ -13,9 +13,10 @@ use Rattle.yuv_support.specs.Blend.{chroma_width}
 use Rattle.yuv_support.specs.Picture.{row_of}
 use Rattle.yuv_support.specs.Counts.{together}
 use Rattle.yuv_support.proofs.Overlay.{value_at}
+use Rattle.yuv_support.proofs.Rows.{part_length, part_at}
 use Rattle.numerics.specs.declared.Kernel.{Kernel}
 use Rattle.numerics.specs.Row.{row_value, at, tailed, row_chroma, whole_value, clipped_over, whole_clipped, Begun}
-use Rattle.numerics.proofs.Row.{value_as, row_as, value_shifted, begun_part, begun_whole, part_at, part_long}
+use Rattle.numerics.proofs.Row.{value_as, row_as, value_shifted, begun_part, begun_whole}
 use Rattle.numerics.proofs.Clips.{clipped_as, clipped_on}
 use Rattle.numerics.proofs.Choice.{some_letters}
 use Rattle.numerics.proofs.Parts.{cut}
@@ -59,10 +60,10 @@ module _ (k : Kernel) (n : ℕ) (l : (n ≡ 3) ⊎ (n ≡ 4)) (width : ℕ) (y p
     last_luma = cut (2 * all) width y
 
     pub last_length : width ≤ length y → length last_luma ≡ width - 2 * all
-    last_length h = part_long (2 * all) width y h
+    last_length h = part_length (2 * all) (width - 2 * all) y (omega arith)
 
     luma_last : (c : ℕ) → c < width - 2 * all → at last_luma c ≡ at y (2 * all + c)
-    luma_last c h = part_at (2 * all) width y c h
+    luma_last c h = part_at (2 * all) (width - 2 * all) y c h
 
     sample_last : (near far : List ℕ) (tail c : ℕ) → c < width - 2 * all → at (tail ∷ tail ∷ []) c ≡ row_chroma width near far tail (2 * all + c)
     sample_last near far tail c h = two_at tail c (omega (arith, last_most)) ∙ rw (chroma_tail width near far tail (2 * all + c) (omega arith))

@@ -20,9 +20,12 @@ use yuv_support::{Clipped, YuvMode};
 // The coefficients of a pixel's letters, with the biases, the rounding and the offset folded into one constant for each letter.
 // half is 8, half of sixteen sixteenths: a number of run time, so that the compiler keeps a blended u16 sample in 16 bits, and does not know
 // the 0 that is made of it.
-// Three functions ask for `half ≡ 8`, and several that a sample is at most 4,095. Both are written out there: a name or a type for such a bound
-// is no plainer, since it says the same number once more elsewhere and has to be unfolded in each proof.
-// A pixel's three samples are parameters of their own: they come from three rows, and each form of a pixel has them in its own order.
+// Three functions ask for `half ≡ 8`, several that a sample or M is at most 4,095, and three that a coefficient is at most 32,767. These are
+// written out there: a name or a type for such a bound is no plainer, since it says the same number once more elsewhere and has to be
+// unfolded in each proof.
+// What a kernel is (`Quick`, `Bytes`, `Words`) is asked for, by one name each, and is no ghost field: this type has the kernels of all three,
+// and `lower` makes the first from the last.
+// A pixel's three samples are parameters of their own: they come from three rows, and `pixel` reads them in an order that the compiler needs.
 #[derive(Clone, Copy)]
 pub struct Kernel {
     pub offset: u32,
@@ -38,7 +41,7 @@ pub struct Kernel {
     pub half: u32,
 }
 
-// A letter, and 1 if it was below 0, or above the largest, before it was clamped.
+// A letter, and 1 if it was below 0, or above the largest, before it was clamped: numbers and no yes or no, since `joined` adds them up.
 #[derive(Clone, Copy)]
 pub struct Letter {
     pub value: u16,
@@ -56,8 +59,9 @@ pub struct Letters {
     pub above: u16,
 }
 
-// ---- samples below 4,096: signed sums. A pixel has two forms, since these sums hold below 4,096 alone, and the form for any samples is slower
-// there. Minimum, comparison and cut are written out on i16, in the shapes that the compiler turns into one instruction for eight lanes.
+// ---- samples below 4,096: signed sums. A pixel has two forms, since these sums hold below 4,096 alone, and by the form for any samples
+// frames of u16 take 1.2 times as long. The letter is made of an i16: the compiler has one instruction for eight of them where they are
+// cut, compared or the lesser is taken.
 
 // A coefficient times a luma sample. Both are said to be below 32,768, so that the compiler multiplies 16 bits by 16.
 fn product(k: u16, x: u16) -> u32
@@ -84,46 +88,18 @@ fn chroma(kp: u16, kq: u16, p: u16, q: u16, bias: u16) -> i32
     signed_product(kp, p, bias) + signed_product(kq, q, bias)
 }
 
-// Cut to an i16 at both ends, as the compiler's packing does.
-fn packed(q: i32) -> i16
-    ensures { result ≡ cut q }
-{
-    let a = if q < -32768 { -32768 } else { q };
-    let b = if 32767 < a { 32767 } else { a };
-    b as i16
-}
-
-// The lesser of two; 1 if a is less than b; and a number, or 0 where it is below 0.
-fn lesser(a: i16, b: i16) -> i16
-    ensures { result ≡ min_z a b }
-{
-    if b < a { b } else { a }
-}
-
-fn is_less(a: i16, b: i16) -> u16
-    ensures { result ≡ cond (lt_z a b) 1 0 }
-{
-    if a < b { 1 } else { 0 }
-}
-
-fn not_below_0(a: i16) -> u16
-    ensures { result ≡ nat_of a }
-{
-    if a < 0 { 0 } else { a as u16 }
-}
-
 // Saturating rounding shift right, of a sum that has the 4,096 in it.
 fn qrshr(sum: i32, max: u16) -> Letter
     requires { max ≤ 4095 }
     ensures { result ≡ signed_letter max sum }
 {
-    let q = packed(sum >> 13);
+    let q = (sum >> 13).clamp(-32768, 32767) as i16;
     let top = max as i16;
-    let least = lesser(q, top);
+    let least = q.min(top);
     Letter {
-        value: not_below_0(least),
-        below: is_less(least, 0),
-        above: is_less(top, q),
+        value: least.max(0) as u16,
+        below: (least < 0) as u16,
+        above: (top < q) as u16,
     }
 }
 
@@ -193,8 +169,8 @@ fn qrshr16(sum: u32, max: u16) -> Letter
     let q = sum / 8192;
     Letter {
         value: (q.saturating_sub(262144).min(32767) as u16).min(max),
-        below: 1 - (q / 262144) as u16,
-        above: ((q + (262143 - max as u32)) / 524288) as u16,
+        below: (q < 262144) as u16,
+        above: (262144 + (max as u32) < q) as u16,
     }
 }
 
@@ -258,7 +234,7 @@ pub fn counted(words: &[u16]) -> Clipped
 
 // ---- blends
 
-// Chroma of the tail: three quarters of the near sample and one of the far one.
+// Chroma of the tail: three quarters of the near sample and one of the far one. Cb's takes no mode: Cr's alone has two meanings.
 pub fn tail<S: Sample>(near: S, far: S) -> S
     ensures { S.number result ≡ rounded (12 * S.number near + 4 * S.number far) }
 {

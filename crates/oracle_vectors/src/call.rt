@@ -67,7 +67,8 @@ impl Columns<'_> {
         let top = self.next()?;
         match self.next::<u32>()? {
             0 => Ok(Levels::UpTo(top)),
-            _ => Ok(Levels::Ends(top)),
+            1 => Ok(Levels::Ends(top)),
+            _ => Err(Error::from(ErrorKind::InvalidData)),
         }
     }
 
@@ -98,7 +99,8 @@ impl Columns<'_> {
     }
 }
 
-// How many elements the three planes have, whose strides are in C's record.
+// How many elements the three planes have, whose strides are in C's record. As usize, since vectors of so many are made: the `Lengths` of
+// `images` and a `Buffer` have u64.
 #[derive(Clone, Copy)]
 pub struct Lengths {
     pub y: usize,
@@ -106,7 +108,7 @@ pub struct Lengths {
     pub v: usize,
 }
 
-// The destination.
+// The destination. Its length is a usize, as in `Lengths`.
 #[derive(Clone, Copy)]
 pub struct Destination {
     pub stride: u32,

@@ -3,7 +3,6 @@ use crate::call::Call;
 use crate::samples::{Levels, Sequence, sum};
 use elements::Element;
 use images::YuvPlanarImage;
-use sample::Sample;
 use sample::plane::{Plane, PlaneMut, Size};
 use std::alloc::Global;
 use std::io;
@@ -21,83 +20,15 @@ struct Buffers<S> {
     rgb: Vec<S>,
 }
 
-impl<S: Sample> Buffers<S> {
-    fn filled(alloc: Global, call: &Call) -> io::Result<Buffers<S>> {
-        let zero = S::from_u16(0);
-        let lengths = call.lengths;
-        let mut y = vec![in alloc; zero; lengths.y]?;
-        let mut u = vec![in alloc; zero; lengths.u]?;
-        let mut v = vec![in alloc; zero; lengths.v]?;
-        let mut rgb = vec![in alloc; zero; call.rgb.length]?;
-        let mut sequence = call.seed;
-        sequence.fill(&mut y, call.levels);
-        sequence.fill(&mut u, call.levels);
-        sequence.fill(&mut v, call.levels);
-        sequence.fill(&mut rgb, Levels::ALL);
-        Ok(Buffers { y, u, v, rgb })
-    }
-}
-
-// Whether the conversion of a call has its answer.
-fn is_whole_same<S: Element>(call: &Call, b: &mut Buffers<S>) -> bool {
-    let image = YuvPlanarImage::with_planes(call.image, &b.y, &b.u, &b.v);
-    let answer = yuv_to_rgbx_bilinear(&image, call.codes, &mut b.rgb, call.rgb.stride);
-    report_of(answer) == call.report && sum(&b.rgb) == call.sum
-}
-
 // The sides of U and V, and the stride of the plane that they are woven into. The sampling is decoded by the total decoder, since calls come
 // here that are refused.
 fn chroma_of(call: &Call) -> (Size, u32) {
     let sampling = yuv_support::sampling_of(call.codes.sampling);
-    let luma = Size {
-        width: call.image.width,
-        height: call.image.height,
-    };
-    let chroma = images::chroma_size(sampling, luma);
+    let chroma = images::chroma_size(sampling, Size::from(call.image));
     (chroma, chroma.width.wrapping_mul(2))
 }
 
-fn weave_chroma<S: Sample>(call: &Call, b: &Buffers<S>, uv: &mut [S]) -> Result<(), YuvError> {
-    let (size, stride) = chroma_of(call);
-    let u = Plane {
-        elements: &b.u,
-        stride: call.image.u_stride,
-    };
-    let v = Plane {
-        elements: &b.v,
-        stride: call.image.v_stride,
-    };
-    let elements = uv;
-    weave::weave(PlaneMut { elements, stride }, u, v, size)
-}
-
-fn unweave_chroma<S: Sample>(call: &Call, uv: &[S], b: &mut Buffers<S>) -> Result<(), YuvError> {
-    let (size, stride) = chroma_of(call);
-    let u = PlaneMut {
-        elements: &mut b.u,
-        stride: call.image.u_stride,
-    };
-    let v = PlaneMut {
-        elements: &mut b.v,
-        stride: call.image.v_stride,
-    };
-    let elements = uv;
-    weave::unweave(Plane { elements, stride }, u, v, size)
-}
-
-// Weaves U and V of a call together and takes them apart again into their planes, whose samples are others by then. Whether this is accepted,
-// as it must be where the call is.
-fn is_rewoven<S: Sample>(alloc: Global, call: &Call, b: &mut Buffers<S>) -> io::Result<bool> {
-    let mut uv = vec![in alloc; S::from_u16(0); 2048]?;
-    if weave_chroma(call, b, &mut uv).is_err() {
-        return Ok(call.report.number != 0);
-    }
-    Sequence { last: call.sum }.fill(&mut b.u, Levels::ALL);
-    Sequence { last: call.sum }.fill(&mut b.v, Levels::ALL);
-    Ok(unweave_chroma(call, &uv, b).is_ok())
-}
-
-// What the bands of a call leave together, from row 0 on. There is a band more than is needed, at the height.
+// What the bands of a call leave together, from row 0 on. There is at least one band more than is needed, at the height.
 fn in_bands<S: Element>(
     call: &Call,
     image: &YuvPlanarImage<'_, S>,
@@ -114,38 +45,102 @@ fn in_bands<S: Element>(
     Ok(Band { rows, clipped })
 }
 
-// Whether the bands of a call together have its answer, and one from row 1 on has number 19, or the call's where that is a refusal or 1 is
-// the height.
-fn are_bands_same<S: Element>(call: &Call, b: &mut Buffers<S>) -> bool {
-    let image = YuvPlanarImage::with_planes(call.image, &b.y, &b.u, &b.v);
-    let odd = yuv_to_rgbx_band(
-        &image,
-        call.codes,
-        &mut b.rgb,
-        call.rgb.stride,
-        1,
-        call.limit(),
-    );
-    let odd = band_report_of(odd, 1);
-    let refused = call.report.number != 0 || call.image.height == 1;
-    let number = if refused { call.report.number } else { 19 };
-    let bands = in_bands(call, &image, &mut b.rgb);
-    let reached = bands.map_or(true, |all| all.rows == call.image.height);
-    let report = report_of(bands.map(|all| all.clipped));
-    odd.number == number
-        && odd.rows == 0
-        && odd.next == 1
-        && reached
-        && report == call.report
-        && sum(&b.rgb) == call.sum
+impl<S: Element> Buffers<S> {
+    fn filled(alloc: Global, call: &Call) -> io::Result<Buffers<S>> {
+        let zero = S::from_u16(0);
+        let lengths = call.lengths;
+        let mut y = vec![in alloc; zero; lengths.y]?;
+        let mut u = vec![in alloc; zero; lengths.u]?;
+        let mut v = vec![in alloc; zero; lengths.v]?;
+        let mut rgb = vec![in alloc; zero; call.rgb.length]?;
+        let mut sequence = call.seed;
+        sequence.fill(&mut y, call.levels);
+        sequence.fill(&mut u, call.levels);
+        sequence.fill(&mut v, call.levels);
+        sequence.fill(&mut rgb, Levels::ALL);
+        Ok(Buffers { y, u, v, rgb })
+    }
+
+    // Whether the conversion of a call has its answer.
+    fn is_whole_same(&mut self, call: &Call) -> bool {
+        let image = YuvPlanarImage::with_planes(call.image, &self.y, &self.u, &self.v);
+        let answer = yuv_to_rgbx_bilinear(&image, call.codes, &mut self.rgb, call.rgb.stride);
+        report_of(answer) == call.report && sum(&self.rgb) == call.sum
+    }
+
+    fn weave_chroma(&self, call: &Call, uv: &mut [S]) -> Result<(), YuvError> {
+        let (size, stride) = chroma_of(call);
+        let u = Plane {
+            elements: &self.u,
+            stride: call.image.u_stride,
+        };
+        let v = Plane {
+            elements: &self.v,
+            stride: call.image.v_stride,
+        };
+        let elements = uv;
+        weave::weave(PlaneMut { elements, stride }, u, v, size)
+    }
+
+    fn unweave_chroma(&mut self, call: &Call, uv: &[S]) -> Result<(), YuvError> {
+        let (size, stride) = chroma_of(call);
+        let u = PlaneMut {
+            elements: &mut self.u,
+            stride: call.image.u_stride,
+        };
+        let v = PlaneMut {
+            elements: &mut self.v,
+            stride: call.image.v_stride,
+        };
+        let elements = uv;
+        weave::unweave(Plane { elements, stride }, u, v, size)
+    }
+
+    // Weaves U and V of a call together and takes them apart again into their planes, whose samples are others by then. Whether this is
+    // accepted, as it must be where the call is.
+    fn is_rewoven(&mut self, alloc: Global, call: &Call) -> io::Result<bool> {
+        let mut uv = vec![in alloc; S::from_u16(0); 2048]?;
+        if self.weave_chroma(call, &mut uv).is_err() {
+            return Ok(call.report.number != 0);
+        }
+        Sequence { last: call.sum }.fill(&mut self.u, Levels::ALL);
+        Sequence { last: call.sum }.fill(&mut self.v, Levels::ALL);
+        Ok(self.unweave_chroma(call, &uv).is_ok())
+    }
+
+    // Whether the bands of a call together have its answer, and one from row 1 on has number 19, or the call's where that is a refusal or 1
+    // is the height.
+    fn are_bands_same(&mut self, call: &Call) -> bool {
+        let image = YuvPlanarImage::with_planes(call.image, &self.y, &self.u, &self.v);
+        let odd = yuv_to_rgbx_band(
+            &image,
+            call.codes,
+            &mut self.rgb,
+            call.rgb.stride,
+            1,
+            call.limit(),
+        );
+        let odd = band_report_of(odd, 1);
+        let refused = call.report.number != 0 || call.image.height == 1;
+        let number = if refused { call.report.number } else { 19 };
+        let bands = in_bands(call, &image, &mut self.rgb);
+        let reached = bands.map_or(true, |all| all.rows == call.image.height);
+        let report = report_of(bands.map(|all| all.clipped));
+        odd.number == number
+            && odd.rows == 0
+            && odd.next == 1
+            && reached
+            && report == call.report
+            && sum(&self.rgb) == call.sum
+    }
 }
 
 // Whether a call has its answer, whole and in bands. The bands are converted from chroma that was woven and taken apart.
 pub fn is_same<S: Element>(alloc: Global, call: &Call) -> io::Result<bool> {
     let mut buffers = Buffers::<S>::filled(alloc, call)?;
-    let whole = is_whole_same(call, &mut buffers);
+    let whole = buffers.is_whole_same(call);
     let mut buffers = Buffers::<S>::filled(alloc, call)?;
-    let rewoven = is_rewoven(alloc, call, &mut buffers)?;
-    let bands = are_bands_same(call, &mut buffers);
+    let rewoven = buffers.is_rewoven(alloc, call)?;
+    let bands = buffers.are_bands_same(call);
     Ok(whole && rewoven && bands)
 }

@@ -1,9 +1,9 @@
 -- The turns of the loops that read and write samples, by the numbers of the samples: what was read, stored, lent and came back (`Numbers` of
 -- sample), and then one sample or one row more (`StreamRows`, `StreamPlanes`).
 -- Assumes nothing.
-use Rattle.std.proofs.Common.{◌≡◌, ℕ, ◌+◌, ◌-◌, ◌*◌, ◌≤◌, ◌<◌, List, map, length, take, drop, set, get_or, suc, arith, refl, ap, ◌∙◌}
+use Rattle.std.proofs.Common.{◌≡◌, ℕ, ◌+◌, ◌-◌, ◌*◌, ◌<◌, List, map, length, take, drop, set, get_or, arith, refl, ap, ◌∙◌}
 use Rattle.std.proofs.lemmas.List.Edits.{sets}
-use Rattle.std.proofs.Math.Nat.{mul-le-mul_left, mul-suc, mul_assoc}
+use Rattle.std.proofs.Math.Nat.{mul_assoc}
 use borrow.Rule.Slice.PartMut.{put_mid}
 use Rattle.yuv_support.specs.Picture.{row_of}
 use Rattle.sample.specs.Bytes.{bytes_of, sample_at}
@@ -11,16 +11,6 @@ use Rattle.sample.proofs.Numbers.{numbers_length, numbers_at, numbers_set, numbe
 use Rattle.planes.specs.Stream.{row_bytes}
 use Rattle.planes.proofs.StreamRows.{RowRead, read_one, RowWritten, write_one}
 use Rattle.planes.proofs.StreamPlanes.{PlaneRead, read_next, PlaneWritten, write_next}
-
--- sample i of a row has its bytes among those of the row
-pub sample_fits : (n i k : ℕ) → i < k → n * i + n ≤ n * k
-sample_fits n i k h =
-    let m : n * suc i ≤ n * k = mul-le-mul_left n h in
-    omega (arith, mul-suc n i)
-
--- row r has its bytes among those of the plane
-pub row_fits : (n columns rows r : ℕ) → r < rows → n * columns * r + n * columns ≤ n * (columns * rows)
-row_fits n columns rows r h = omega (arith, sample_fits (n * columns) r rows h, mul_assoc n columns rows)
 
 module _ {X : Type 0} {number : X → ℕ} {numbers : List X → List ℕ} (are : (xs : List X) → numbers xs ≡ map number xs) where
   pub sample_read : {g : ℕ → ℕ} {row₀ row : List X} {i : ℕ} (x : X) → RowRead g (numbers row₀) (numbers row) i → i < length row → number x ≡ g i

@@ -1,4 +1,7 @@
 // The samples of a plane as bytes of a stream, read and written row by row.
+// The samples of a row go with their numbers, since `from_bytes` and `put_bytes` take a place: a
+// part would have to be cut for each sample. Rows go by number: of what a loop over `chunks_mut`
+// writes nothing is known.
 ghost use Rattle.std.specs.Prelude.{◌≡◌, ◌+◌, ◌*◌, ◌≤◌, length};
 ghost use Rattle.yuv_support.specs.Picture.{row_of};
 ghost use Rattle.yuv_support.specs.Questions.{needed};
@@ -57,6 +60,7 @@ pub fn read_plane<S: Sample>(plane: PlaneMut<'_, S>, s: &[u8], at: usize, size: 
 // The bytes of a plane, from a place of the output on; the answer is the place after them.
 // The place goes beside the output, since `Wrote` says at once what was written and that all else
 // is kept: slices of the rest would need that said again for each plane.
+#[tactic(auto, using(crate::proofs::StreamPlanes::next_room))]
 pub fn write_plane<S: Sample>(out: &mut [u8], at: usize, plane: Plane<'_, S>, size: Size) -> usize
     requires wide { size.width ≤ plane.stride }
     requires long { needed plane.stride size.width size.height ≤ length plane.elements.now }
@@ -66,6 +70,7 @@ pub fn write_plane<S: Sample>(out: &mut [u8], at: usize, plane: Plane<'_, S>, si
         Wrote out.old at bytes out.new result }
 {
     let n = S::SIZE * size.width as usize;
+    // Counted by hand: it is the answer too.
     let mut to = at;
     for r in 0..size.height {
         write_row(&mut out[to..to + n], plane.row(r, size.width));

@@ -1,6 +1,9 @@
 // Chroma woven together and taken apart: rows, then planes. A woven row has U and V samples
 // alternating, U first. The loop that takes rows apart reads two samples as one number
 // (`Sample::two`).
+// Rows of a plane go by number: of what a loop over `chunks_mut` writes nothing is known. Three
+// planes and a size stay four parameters, here and in `weave`: which planes are written differs,
+// and a struct round a `PlaneMut` would have to be taken apart.
 ghost use Rattle.std.specs.Prelude.{◌≡◌, ◌+◌, ◌*◌, ◌≤◌, length};
 ghost use Rattle.yuv_support.specs.Picture.{row_of};
 ghost use Rattle.numerics.specs.Row.{at};

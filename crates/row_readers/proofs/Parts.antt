@@ -9,10 +9,10 @@ use Prim.Native.Nat.{ℕ, ◌+◌, ◌≤◌, ◌<◌}
 use native.Mathlib.Omega.{arith}
 use borrow.Author.Tests.{eqb-true, eq-eqb}
 use lib.Dec.{eqb}
-use lib.ListN.{length, take, drop, length-drop}
-use lib.Seq.{length-take-le}
+use lib.ListN.{length, take, drop}
 use Rattle.std.specs.Prelude.{Result, Ok, Err, IfOk}
 use Rattle.yuv_support.specs.Questions.{Verdict}
+use Rattle.yuv_support.proofs.Rows.{part_length}
 use Rattle.yuv_error.specs.declared.error.YuvError.{YuvError}
 use Rattle.yuv_error.specs.Told.{answered}
 use Rattle.yuv_error.proofs.Refused.{refused_number}
@@ -29,7 +29,7 @@ module _ {X : Type 0} (v : Verdict) (start n : ℕ) (buffer : List X) (fits : v.
   pub handed_length : v.number ≡ 0 → length (handed v (take n (drop start buffer))) ≡ n
   handed_length e =
       let f : start + n ≤ length buffer = fits e in
-      rw (eq-eqb v.number 0 e) (length-take-le n (drop start buffer) (simp length-drop (omega arith)))
+      rw (eq-eqb v.number 0 e) (part_length start n buffer (omega arith))
 
   pub accepted_iff_handed : (v.number ≡ 0 → 1 ≤ n) → (v.number ≡ 0) ↔ (0 < length (handed v (take n (drop start buffer))))
   accepted_iff_handed some = (forth, back (eqb v.number 0) refl)

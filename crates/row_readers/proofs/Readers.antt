@@ -3,13 +3,13 @@
 -- Assumes nothing.
 use mathlib.Core.Path.{◌≡◌, refl}
 use mathlib.Core.Logic.{◌↔◌}
-use mathlib.Core.Bool.{Bool, true, false, cond, and-eq-true_iff}
+use mathlib.Core.Bool.{Bool, true, false, cond}
 use mathlib.Core.List.{List}
 use Prim.Native.Nat.{ℕ, ◌+◌, ◌*◌, ◌≤◌, ◌<◌}
 use native.Mathlib.Nat.{mul-le-mul}
 use native.Mathlib.Omega.{arith}
 use borrow.Author.Tests.{leb-true, ltb-true}
-use lib.Dec.{leb, eqb}
+use lib.Dec.{eqb}
 use lib.ListN.{length}
 use Rattle.yuv_support.specs.Settings.{sampling_of, order_of}
 use Rattle.yuv_support.specs.Blend.{chroma_width, chroma_height, near_row}
@@ -19,6 +19,7 @@ use Rattle.yuv_support.proofs.Blend.{near_row_lt}
 use Rattle.yuv_support.proofs.Picture.{three_or_four_channels}
 use Rattle.yuv_support.proofs.Questions.{question_at, each_holds}
 use Rattle.yuv_support.proofs.Rows.{row_fits}
+use Rattle.images.proofs.Held.{sides_are}
 use Rattle.row_readers.specs.Readers.{extent_of, wanted, row_answer, row_part, chroma_row_answer, chroma_row_part}
 use Rattle.row_readers.proofs.Parts.{handed_length, accepted_iff_handed}
 
@@ -26,7 +27,6 @@ use Rattle.row_readers.proofs.Parts.{handed_length, accepted_iff_handed}
 
 pub record RowHeld (order width height size stride row : ℕ) : Type 0 where
   pub width_least : 1 ≤ width
-  pub width_most : width ≤ 16384
   pub long : needed stride (width * channels_of (order_of order)) height ≤ size
   pub row_below : row < height
 
@@ -37,8 +37,7 @@ module _ (order width height size stride row : ℕ) (accepted : (row_answer orde
       let h : (k : ℕ) → (question_at (row_questions order width height (extent size stride) row) k).holds ≡ true
       = each_holds (row_questions order width height (extent size stride) row) refl accepted in
       record {
-        width_least = leb-true 1 width ((and-eq-true_iff (leb 1 width) _).0 (h 1)).0;
-        width_most = leb-true width 16384 ((and-eq-true_iff (leb width 16384) _).0 (h 2)).0;
+        width_least = (sides_are width height (h 1) (h 2)).width_least;
         long = leb-true _ _ (h 3);
         row_below = ltb-true row height (h 5);
       }
@@ -82,7 +81,7 @@ module _ (sampling plane width height u_size u_stride v_size v_stride row : ℕ)
       let h : (k : ℕ) → (question_at (chroma_row_questions sampling plane width height (extent u_size u_stride) (extent v_size v_stride) row) k).holds ≡ true
       = each_holds (chroma_row_questions sampling plane width height (extent u_size u_stride) (extent v_size v_stride) row) refl accepted in
       record {
-        width_least = leb-true 1 width ((and-eq-true_iff (leb 1 width) _).0 (h 2)).0;
+        width_least = (sides_are width height (h 2) (h 3)).width_least;
         u_long = leb-true _ _ (h 5);
         v_long = leb-true _ _ (h 7);
         row_below = ltb-true row height (h 8);

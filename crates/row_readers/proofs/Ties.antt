@@ -31,14 +31,14 @@ pub row_of_painted : (f : ℕ → ℕ → ℕ) (stride n height row : ℕ) (old 
 row_of_painted f stride n height row old wide below long =
     is_overlay (λ x old. f row x) (part_of stride row n old) _ (new_length ∙ sym old_length)
     (λ x b. let h : x < n = omega (arith, old_length) in
-    part_at stride row n (painted f stride n 0 height old) x h
+    part_at (stride * row) n (painted f stride n 0 height old) x h
     ∙ cell_at f stride n 0 height row x old wide (omega arith) (omega arith) h (omega arith))
   where
     old_length : length (part_of stride row n old) ≡ n
-    old_length = part_length stride row n old long
+    old_length = part_length (stride * row) n old (omega arith)
 
     new_length : length (part_of stride row n (painted f stride n 0 height old)) ≡ n
-    new_length = part_length stride row n (painted f stride n 0 height old) (rw (painted_length f stride n 0 height old) long)
+    new_length = part_length (stride * row) n (painted f stride n 0 height old) (rw (painted_length f stride n 0 height old) (omega arith))
 
 pub row_of_picture : (s : Settings) (f : Frame) (stride row : ℕ) (old : List ℕ) → f.width * channels_of s.order ≤ stride → row < f.height
     → needed stride (f.width * channels_of s.order) f.height ≤ length old
@@ -92,7 +92,7 @@ module _ (known : List ℕ) (codes : Codes) (image : Geometry) (y u v : List ℕ
   unfolding finished_row
   converted_row_at x h =
       let n : ℕ = image.width * channels_of (order_of codes.order) in
-      let l : length (part_of stride row n rgb) ≡ n = part_length stride row n rgb (row_fits stride n image.height row (length rgb) facts.rgb_length below) in
+      let l : length (part_of stride row n rgb) ≡ n = part_length (stride * row) n rgb (omega (arith, row_fits stride n image.height row (length rgb) facts.rgb_length below)) in
       rw converted_row
       (overlay_at (λ x old. element_of (decoded codes) (frame_of image y u v) row x) (part_of stride row n rgb) x (omega arith))
 
@@ -101,7 +101,7 @@ module _ (known : List ℕ) (codes : Codes) (image : Geometry) (y u v : List ℕ
 pub near_chroma_row_at : (s : Settings) (sampling width height stride row : ℕ) (plane : List ℕ) (column : ℕ) → column < chroma_width width
     → unpacked s.packing s.depth (get_or (near_chroma_row sampling width height stride row plane) column 0) ≡ sample s plane stride (near_row (sampling_of sampling) height row) column
 unfolding near_chroma_row
-near_chroma_row_at s sampling width height stride row plane column h = ap (unpacked s.packing s.depth) (part_at stride _ (chroma_width width) plane column h)
+near_chroma_row_at s sampling width height stride row plane column h = ap (unpacked s.packing s.depth) (part_at _ (chroma_width width) plane column h)
 
 -- an accepted part holds the elements of a frame's near samples: Cb's for code 0, Cr's for code 1
 pub chroma_row_at : (s : Settings) (f : Frame) (sampling plane row column : ℕ)

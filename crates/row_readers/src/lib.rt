@@ -1,8 +1,9 @@
 // Two readers over a picture of any element: a finished row as a part of the destination, and a luma row's near chroma row as a part of the
 // U or the V plane. Nothing is asked of the caller. The `_part` functions give the answer as numbers, with the part's start and length, for
 // hosts to whom no reference can be returned.
-// Codes are numbers here: C hands them over, and questions 1 and 2 are asked of them. A call's parameters are no struct: document 01 fixes the
-// form of both readers, a function of a lent destination or of two lent planes with one lifetime, with codes, sides and row beside.
+// Codes are numbers here: C hands them over, and questions 1 and 2 are asked of them. A call's parameters are no struct: document 01 fixes
+// that a reader is a function of a lent destination, or of two lent planes with one lifetime; a struct of the others would be taken apart at
+// once, in `finished_place` and in `near_chroma_place`.
 #![tactic(auto)]
 
 ghost use Rattle.std.specs.Prelude.{◌≡◌, ◌+◌, ◌≤◌, length, take, drop, IfOk};
@@ -42,7 +43,7 @@ impl Place {
     }
 }
 
-// A function and no `From`: an answer is told in several records, and the name says in which.
+// A function and no `From`: an `impl` for `Result<Place, YuvError>` would have this body and this clause, and be no plainer.
 fn part_of(place: Result<Place, YuvError>) -> Part
     ensures { result ≡ placed_by place }
 {

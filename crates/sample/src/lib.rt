@@ -1,5 +1,5 @@
-// A sample of a plane, or a letter of a picture, as a number: `u8` or `u16`. What both have in common is said here, once: the numbers that they
-// are, the depths that they hold, their bytes in a stream. And a plane as it is lent.
+// A sample of a plane, or a letter of a picture, as a number: `u8` or `u16`. What both have in common is said here, once: the numbers that
+// they are, the depths that they hold, their bytes in a stream. And a plane as it is lent.
 #![tactic(auto)]
 
 ghost use Rattle.std.specs.Prelude.{◌≡◌, ℕ, List, ◌+◌, ◌≤◌, ◌<◌, cond, eqb, length, map, get_or, set};
@@ -37,6 +37,7 @@ pub trait Sample: Copy + Depths {
 
     const SIZE: usize;
 
+    // No `From`, here and in `from_u16`: this one tells that the number fits, and that one asks it, and std's traits have no such clauses.
     fn to_u16(self) -> u16
         ensures value { result ≡ number self }
         ensures fits { result ≤ most };
@@ -165,15 +166,14 @@ impl Sample for u16 {
 
     #[tactic(auto, unfolding(crate::specs::Bytes::sample_at))]
     fn from_bytes(bytes: &[u8], place: usize) -> u16 {
-        let low = bytes[place];
-        let high = bytes[place + 1];
-        low as u16 + 256 * high as u16
+        u16::from_le_bytes([bytes[place], bytes[place + 1]])
     }
 
     #[tactic(auto, unfolding(crate::specs::Bytes::bytes_of))]
     fn put_bytes(self, out: &mut [u8], place: usize) {
-        out[place] = (self % 256) as u8;
-        out[place + 1] = (self / 256) as u8;
+        let [low, high] = self.to_le_bytes();
+        out[place] = low;
+        out[place + 1] = high;
     }
 }
 

@@ -6,7 +6,8 @@ use std::io;
 use yuv_support::Codes;
 
 // The line of one setting. Sampling, order and packing have no part in it, and the weights count for Custom only, which has no name.
-// Range and matrix are numbers here, since their codes are printed and no enum gives its code.
+// Range and matrix are numbers here, since their codes are printed and no enum gives its code. No `Display`: the record is settings_used's,
+// and so no `impl` may be here.
 fn print_setting(rt: &impl Print, depth: u32, range: u32, matrix: u32) -> io::Result<()> {
     let s = settings_used::settings_used(Codes {
         depth,

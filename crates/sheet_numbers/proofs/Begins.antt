@@ -1,7 +1,7 @@
 -- The library's `starts_with` answers what `begins_with` says, for a text without a byte 0 (`starts_begins`).
 -- Assumes nothing.
 use mathlib.Core.Path.{◌≡◌, refl, sym, ap, ◌∙◌}
-use mathlib.Core.Bool.{Bool, true, false, ◌&&◌, and-eq-true_iff}
+use mathlib.Core.Bool.{Bool, true, false, ◌&&◌, and_assoc, and-eq-true_iff}
 use mathlib.Core.List.{List, [], ◌∷◌}
 use Prim.Native.Nat.{ℕ, zero, suc, ◌<◌}
 use native.Mathlib.Omega.{arith}
@@ -15,10 +15,6 @@ use Rattle.sheet_numbers.specs.Read.{same_byte, begins_with}
 abbrev pub has_no_zero : List ℕ → Bool
 has_no_zero [] = true
 has_no_zero (x ∷ xs) = ltb 0 x && has_no_zero xs
-
-and_assoc : (a b c : Bool) → (a && b) && c ≡ a && (b && c)
-and_assoc true b c = refl
-and_assoc false b c = refl
 
 -- the first number apart from the others
 pub all_first : (p : ℕ → Bool) (n : ℕ) → all_below p (suc n) ≡ p 0 && all_below (λ i. p (suc i)) n

@@ -9,7 +9,7 @@ use native.Mathlib.Omega.{arith}
 use borrow.Author.Tests.{leb-true}
 use lib.ListN.{length, take, get_or, get_or-append}
 use lib.Seq.{sets, sets-eq, take_at, get_or-take, get_or_at}
-use Rattle.yuv_support.proofs.Overlay.{below_or_not}
+use Rattle.std.proofs.lemmas.Bool.{cases_lt}
 use Rattle.sheet_writing.specs.Text.{joined}
 use Rattle.std.specs.Prelude.{Option, Some, None}
 use Rattle.sheet_numbers.specs.Numbers.{number_at, is_number, all_below, begin, ending, is_item, are_lines, numbers_from}
@@ -59,7 +59,7 @@ numbers_at : (s : List ℕ) (at n i : ℕ) → i < n → get_or (numbers_from s 
 unfolding joined
 numbers_at s at zero i h = absurd (omega arith)
 numbers_at s at (suc n) i h =
-    numbers_step (λ i. number_at s (begin s at i)) (numbers_from s at n) n i (numbers_length s at n) (numbers_at s at n i) (below_or_not i n) h
+    numbers_step (λ i. number_at s (begin s at i)) (numbers_from s at n) n i (numbers_length s at n) (numbers_at s at n i) (cases_lt i n) h
 
 pub number_read : (s : List ℕ) (at : ℕ) {n i : ℕ} (xs : List ℕ) → take n xs ≡ numbers_from s at n → i < n → get_or xs i 0 ≡ number_at s (begin s at i)
 number_read s at {n} {i} xs e h = sym (get_or-take n xs i 0 h) ∙ ap (λ (t : List ℕ). get_or t i 0) e ∙ numbers_at s at n i h

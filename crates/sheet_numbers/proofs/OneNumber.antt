@@ -10,8 +10,8 @@ use native.Mathlib.Omega.{arith}
 use borrow.Author.Tests.{leb-true, eqb-true, le-leb, lt-leb, eq-eqb, ne_eqb}
 use lib.Dec.{leb, lit<}
 use lib.ListN.{length, get_or-eq_default}
-use Rattle.yuv_support.proofs.Overlay.{below_or_not}
 use Rattle.std.specs.Prelude.{Some, None}
+use Rattle.std.proofs.lemmas.Bool.{cases_lt}
 use Rattle.sheet_numbers.specs.Read.{number_read}
 use Rattle.sheet_numbers.specs.Numbers.{byte_at, is_digit, digits_within, digits_at, decimal, number_at, past, is_number}
 
@@ -80,7 +80,7 @@ passed_five {s} {at} {value} {count} {place} p h = let k : 5 - count ≡ 0 = ome
 
 -- a byte that is not 0 stands inside the list
 pub inside : (s : List ℕ) (i : ℕ) → 0 < byte_at s i → i < length s
-inside s i h = go (below_or_not i (length s))
+inside s i h = go (cases_lt i (length s))
   where
     go : (i < length s) ⊎ (length s ≤ i) → i < length s
     go (inl l) = l

@@ -2,14 +2,12 @@
 -- Assumes nothing.
 use mathlib.Core.Path.{◌≡◌, refl}
 use mathlib.Core.Bool.{Bool, true, false, cond}
-use Prim.Native.Nat.{ℕ}
-use native.Mathlib.Omega.{arith}
 use Rattle.std.specs.Prelude.{Some, None}
 
 pub some_met : {X : Type 0} (t : Bool) (a x : X) → cond t (Some a) None ≡ Some x → (t ≡ true) × (x ≡ a)
 some_met true a x e = (refl, cc)
-some_met false a x e = let z : ◌≡◌ {A = ℕ} 0 1 = cc in absurd (omega arith)
+some_met false a x e = absurd (cc)
 
 pub none_unmet : {X : Type 0} (t : Bool) (a : X) → cond t (Some a) None ≡ None → t ≡ false
-none_unmet true a e = let z : ◌≡◌ {A = ℕ} 0 1 = cc in absurd (omega arith)
+none_unmet true a e = absurd (cc)
 none_unmet false a e = refl

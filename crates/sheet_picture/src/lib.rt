@@ -42,13 +42,14 @@ fn narrow<'a, S: Element>(numbers: &[u32; 4096], n: usize, plane: &'a mut [S; 40
     requires wide { S.most ≤ 65535 }
     ensures { S.numbers result.now ≡ take n numbers.now }
 {
+    // By number: of what a loop over a zip with `iter_mut` writes nothing is known.
     for (i, number) in numbers[..n].iter().enumerate() {
         sample::write(plane, i, *number as u16);
     }
     &plane[..n]
 }
 
-// The public entry. A refused call clips nothing.
+// The public entry. A refused call clips nothing. `rgb` and `stride` are no `PlaneMut`: the head of `convert` says why.
 fn convert<S: Element>(
     picture: &YuvPlanarImage<'_, S>,
     codes: Codes,
@@ -68,12 +69,12 @@ fn convert<S: Element>(
     yuv_to_rgbx_bilinear(picture, codes, rgb, stride).unwrap_or(nothing)
 }
 
-// The table of a picture with elements of one width.
+// The table of a picture with elements of one width. Arrays, as in `Planes`, since the library uses no heap.
 fn table_at<S: Element>(known: Known, planes: &Planes) -> Page
     requires fit { Fit S.known known.values }
     requires samples { Samples S.most known.values planes.now.y planes.now.u planes.now.v }
     requires wide { S.most ≤ 65535 }
-    ensures { result
+    ensures { result.items
         ≡ table (decoded (codes_of known.values))
         (planes_frame known.values planes.now.y planes.now.u planes.now.v) }
 {
@@ -98,7 +99,7 @@ fn table_at<S: Element>(known: Known, planes: &Planes) -> Page
 
 // The table of the picture with its last line: from bytes at depth 8, else from elements of 16 bits.
 pub fn table_of(sheet: &Sheet) -> Page
-    ensures { result
+    ensures { result.items
         ≡ table (decoded (codes_of sheet.now.known.values))
         (planes_frame sheet.now.known.values sheet.now.planes.y sheet.now.planes.u
         sheet.now.planes.v) }

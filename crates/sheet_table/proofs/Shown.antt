@@ -2,15 +2,14 @@
 -- Assumes nothing.
 use mathlib.Core.Path.{◌≡◌, ap}
 use mathlib.Core.List.{List, ◌++◌}
-use Prim.Native.Nat.{ℕ, ◌*◌, ◌≤◌, ◌<◌}
-use native.Mathlib.Nat.{le_trans, mul-le-mul}
-use native.Mathlib.Omega.{arith}
+use Prim.Native.Nat.{ℕ, ◌<◌}
+use native.Mathlib.Nat.{le_trans}
 use Rattle.yuv_support.specs.declared.Settings.{Settings}
 use Rattle.yuv_support.specs.declared.Clipped.{Clipped}
 use Rattle.yuv_support.specs.Blend.{Frame}
 use Rattle.yuv_support.specs.Component.{red, green, blue}
 use Rattle.yuv_support.specs.Counts.{clipped_in}
-use Rattle.yuv_support.proofs.Counts.{band_most}
+use Rattle.yuv_support.proofs.Counts.{band_most, sides_most}
 use Rattle.sheet_writing.proofs.Write.{joined_same}
 use Rattle.sheet_table.specs.Table.{heading, pixel_line, row_text, clipped_text, table, FiveDigits}
 use Rattle.sheet_table.specs.Shown.{shown_pixel, shown_row, shown_rows, Shows}
@@ -35,11 +34,8 @@ module _ (s : Settings) (f : Frame) (rgb : List ℕ) (shows : Shows s f rgb) whe
 
 -- ---- the digits of the last line
 
-small_sides_most : (w n : ℕ) → w ≤ 64 → n ≤ 64 → 3 * w * n ≤ 12288
-small_sides_most w n hw hn = mul-le-mul (let a : 3 * w ≤ 192 = omega arith in a) hn
-
 pub five_digits : FiveDigits
 five_digits s f hw hh =
     let b = band_most s f 0 f.height in
-    let m = small_sides_most f.width f.height hw hh in
+    let m = sides_most 64 f.width f.height hw hh in
     (le_trans b.0 m, le_trans b.1 m)

@@ -1,4 +1,7 @@
 // The table of a small picture: a heading, a line for each pixel, read from the picture's buffer, and a last line of what was clipped.
+// The buffer is an array, since the library uses no heap: of 64 by 64 pixels of four letters, of which a picture has the first ones.
+// The buffer and the shape stay two parameters: each clause names the order, the width and the samples apart. That a row is below the height,
+// and how much room a text needs, is asked where it is used: each is one number.
 #![tactic(auto)]
 
 ghost use Rattle.std.specs.Prelude.{◌≡◌, ◌++◌, ◌+◌, ◌*◌, ◌≤◌, ◌<◌, length};
@@ -9,8 +12,9 @@ ghost use Rattle.sheet_table.specs.Table.{heading, pixel_text, clipped_text};
 ghost use Rattle.sheet_table.specs.Shown.{stride_of, element_at, shown_pixel, shown_row, shown_rows};
 
 use crate::shape::Shape;
+use arrayvec::ArrayVec;
 use sample::Sample;
-use sheet_writing::Text;
+use sheet_writing::{push_bytes, push_number};
 use yuv_support::{Clipped, YuvSourceChannels};
 
 pub mod shape;
@@ -19,7 +23,7 @@ pub mod shape;
 pub const PAGE: usize = 131072;
 
 // The output of a sheet.
-pub type Page = Text<PAGE>;
+pub type Page = ArrayVec<u8, PAGE>;
 
 // A pixel with its place.
 #[derive(Clone, Copy)]
@@ -31,7 +35,7 @@ struct Pixel {
     blue: u16,
 }
 
-// Where red stands among a pixel's letters.
+// Where red stands among a pixel's letters. By a match: two orders share each place, which no derive says.
 #[tactic(auto, unfolding(yuv_support::specs::Picture::place_in))]
 fn red_place(order: YuvSourceChannels) -> usize
     ensures red { result ≡ place_in order red }
@@ -71,20 +75,20 @@ fn pixel_at<S: Sample>(rgb: &[S; 16384], shape: Shape, row: u32, column: u32) ->
 // A number and the byte after it.
 #[tactic(auto, using(sheet_writing::proofs::Write::number_text_length), unfolding(sheet_writing::specs::Text::number_text))]
 fn push_field(out: &mut Page, n: u32, byte: u8)
-    requires { length out.old + 6 ≤ 131072 }
-    ensures text { out.new ≡ out.old ++ number_text n byte }
-    ensures most { length out.new ≤ length out.old + 6 }
+    requires { length out.old.items + 6 ≤ 131072 }
+    ensures text { out.new.items ≡ out.old.items ++ number_text n byte }
+    ensures most { length out.new.items ≤ length out.old.items + 6 }
 {
-    out.push_number(n);
+    push_number(out, n);
     out.push(byte);
 }
 
 // The line of a pixel.
 fn push_pixel(out: &mut Page, pixel: Pixel)
-    requires { length out.old + 30 ≤ 131072 }
-    ensures text { out.new
-        ≡ out.old ++ pixel_text pixel.row pixel.column pixel.red pixel.green pixel.blue }
-    ensures most { length out.new ≤ length out.old + 30 }
+    requires { length out.old.items + 30 ≤ 131072 }
+    ensures text { out.new.items
+        ≡ out.old.items ++ pixel_text pixel.row pixel.column pixel.red pixel.green pixel.blue }
+    ensures most { length out.new.items ≤ length out.old.items + 30 }
 {
     push_field(out, pixel.row, b' ');
     push_field(out, pixel.column, b' ');
@@ -95,11 +99,11 @@ fn push_pixel(out: &mut Page, pixel: Pixel)
 
 // The lines of a row.
 fn push_row<S: Sample>(out: &mut Page, rgb: &[S; 16384], shape: Shape, row: u32)
-    requires room { length out.old + 1920 ≤ 131072 }
+    requires room { length out.old.items + 1920 ≤ 131072 }
     requires row { row < shape.height }
-    ensures text { out.new
-        ≡ out.old ++ shown_row shape.order shape.width (S.numbers rgb.now) row shape.width }
-    ensures most { length out.new ≤ length out.old + 1920 }
+    ensures text { out.new.items
+        ≡ out.old.items ++ shown_row shape.order shape.width (S.numbers rgb.now) row shape.width }
+    ensures most { length out.new.items ≤ length out.old.items + 1920 }
 {
     for column in 0..shape.width {
         push_pixel(out, pixel_at(rgb, shape, row, column));
@@ -108,10 +112,10 @@ fn push_row<S: Sample>(out: &mut Page, rgb: &[S; 16384], shape: Shape, row: u32)
 
 // The lines of all rows.
 fn push_rows<S: Sample>(out: &mut Page, rgb: &[S; 16384], shape: Shape)
-    requires { length out.old + 122880 ≤ 131072 }
-    ensures text { out.new
-        ≡ out.old ++ shown_rows shape.order shape.width (S.numbers rgb.now) shape.height }
-    ensures most { length out.new ≤ length out.old + 122880 }
+    requires { length out.old.items + 122880 ≤ 131072 }
+    ensures text { out.new.items
+        ≡ out.old.items ++ shown_rows shape.order shape.width (S.numbers rgb.now) shape.height }
+    ensures most { length out.new.items ≤ length out.old.items + 122880 }
 {
     for row in 0..shape.height {
         push_row(out, rgb, shape, row);
@@ -121,22 +125,22 @@ fn push_rows<S: Sample>(out: &mut Page, rgb: &[S; 16384], shape: Shape)
 // The last line, of what was clipped.
 #[tactic(auto, unfolding(crate::specs::Table::clipped_text))]
 fn push_clipped(out: &mut Page, c: Clipped)
-    requires { length out.old + 20 ≤ 131072 }
-    ensures { out.new ≡ out.old ++ clipped_text c }
+    requires { length out.old.items + 20 ≤ 131072 }
+    ensures { out.new.items ≡ out.old.items ++ clipped_text c }
 {
-    out.push_bytes(b"clipped ");
+    push_bytes(out, b"clipped ");
     push_field(out, c.below, b' ');
     push_field(out, c.above, b'\n');
 }
 
 // The table of a picture that stands in a buffer, and of what was clipped in it.
 pub fn table_of<S: Sample>(rgb: &[S; 16384], shape: Shape, clipped: Clipped) -> Page
-    ensures { result
+    ensures { result.items
         ≡ heading ++ shown_rows shape.order shape.width (S.numbers rgb.now) shape.height
         ++ clipped_text clipped }
 {
-    let mut out: Page = Text::new();
-    out.push_bytes(b"row column r g b\n");
+    let mut out = Page::new();
+    push_bytes(&mut out, b"row column r g b\n");
     push_rows(&mut out, rgb, shape);
     push_clipped(&mut out, clipped);
     out

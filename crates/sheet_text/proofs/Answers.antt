@@ -1,22 +1,25 @@
 -- The text of a sheet, question by question: what each "no" prints, and where all are answered the table of the planes that were read.
 -- Assumes nothing.
-use mathlib.Core.Path.{◌≡◌, refl, sym, ◌∙◌, subst⁻¹}
+use mathlib.Core.Path.{◌≡◌, refl, sym, ap, ◌∙◌, subst⁻¹}
 use mathlib.Core.Bool.{Bool, true, false, cond, ◌&&◌, and-eq-true_iff}
 use mathlib.Core.List.{List, [], ◌∷◌}
 use Prim.Native.Nat.{ℕ, ◌≤◌, ◌<◌}
 use native.Mathlib.Omega.{arith}
 use borrow.Author.Tests.{leb-true, eqb-true}
 use lib.Dec.{T, leb, eqb, lit<}
-use lib.ListN.{length, get_or}
+use lib.ListN.{length, take, get_or}
+use lib.Pointwise.{pointwise}
 use Rattle.yuv_support.specs.Settings.{last_packing, among, depths}
 use Rattle.yuv_support.specs.Questions.{ask, verdict, decoded, codes_known}
 use Rattle.yuv_support.proofs.Tests.{passed}
 use Rattle.sheet_numbers.specs.Numbers.{byte_at, number_at, begin, are_lines}
 use Rattle.sheet_numbers.proofs.OneNumber.{inside}
 use Rattle.sheet_numbers.proofs.ManyNumbers.{all_below_lem}
-use Rattle.sheet_numbers.specs.Read.{Lined}
-use Rattle.sheet_numbers.proofs.Lined.{number_read}
-use Rattle.std.specs.Prelude.{Result, Ok, Err}
+use Rattle.sheet_numbers.specs.Read.{LinesTaken, Lined}
+use Rattle.sheet_numbers.proofs.Begins.{starts_begins}
+use Rattle.sheet_numbers.proofs.Lined.{lined, number_read}
+use Rattle.std.specs.Prelude.{Option, Result, Ok, Err}
+use Rattle.std.specs.Result.{result_ok}
 use Rattle.yuv_support.specs.declared.Settings.{Settings}
 use Rattle.sheet_values.specs.declared.Refusal.{Refusal}
 use Rattle.sheet_values.specs.declared.Refusal.TheVariants.{UnknownSampling, UnknownCode, Malformed}
@@ -173,6 +176,19 @@ not_started s {why} e = go (has_names s) (has_values s) refl refl e
     go true true p q r = absurd (cc)
     go true false p q r = let w : Malformed ≡ why = cc in rw (← w) (sym (values_missed s p q))
     go false b p q r = let w : Malformed ≡ why = cc in rw (← w) (sym (names_missed s p))
+
+-- whether the list begins with the names, as the library's `starts_with` tells
+pub names_asked : (s : List ℕ) {b t : Bool}
+    → b ≡ pointwise eqb names (take (length names) s) → b ≡ t → has_names s ≡ t
+unfolding has_names
+names_asked s starts is = sym (starts_begins s names refl) ∙ (sym starts ∙ is)
+
+-- the seven numbers of the second line, where reading it answers the place after them
+pub numbers_lined : {s old numbers : List ℕ} {next : ℕ} {found : Option ℕ} {r : Result ℕ Refusal}
+    → has_names s ≡ true → 7 ≤ length old → LinesTaken s 47 7 99999 7 old numbers found
+    → found ≡ result_ok r → r ≡ Ok next → Lined s 47 7 99999 7 numbers next
+numbers_lined named room taken told is =
+    lined (names_length _ named) room taken (told ∙ ap result_ok is)
 
 -- what is answered of them
 module _ (s : List ℕ) where

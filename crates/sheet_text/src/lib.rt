@@ -17,7 +17,7 @@ use sheet_picture::{Planes, Sheet};
 pub use sheet_table::PAGE;
 use sheet_table::Page;
 use sheet_values::{Known, Refusal, Values};
-use sheet_writing::Text;
+use sheet_writing::{push_bytes, push_number};
 
 // The values of the second line, and the place after it.
 #[derive(Clone, Copy)]
@@ -26,7 +26,8 @@ struct Start {
     at: usize,
 }
 
-// A plane of a sheet and the place after its lines.
+// A plane of a sheet and the place after its lines. Its numbers are the first ones of an array, here and below, since the library uses no
+// heap.
 #[derive(Drop)]
 struct Plane {
     numbers: [u32; 4096],
@@ -115,18 +116,18 @@ fn read_sheet(s: &[u8]) -> Result<Sheet, Refusal>
 // The line of a refusal.
 #[tactic(auto, unfolding(crate::specs::Sheet::refusal, sheet_writing::specs::Text::number_text))]
 fn refusal_text(why: Refusal) -> Page
-    ensures { result ≡ refusal (number_of why) }
+    ensures { result.items ≡ refusal (number_of why) }
 {
-    let mut text: Page = Text::new();
-    text.push_bytes(b"refused ");
-    text.push_number(u32::from(why));
+    let mut text = Page::new();
+    push_bytes(&mut text, b"refused ");
+    push_number(&mut text, u32::from(why));
     text.push(b'\n');
     text
 }
 
 // The table, or the line of the refusal.
 fn text_of(s: &[u8]) -> Page
-    ensures { result ≡ sheet_of s.now }
+    ensures { result.items ≡ sheet_of s.now }
 {
     match read_sheet(s) {
         Ok(sheet) => sheet_picture::table_of(&sheet),
@@ -134,15 +135,16 @@ fn text_of(s: &[u8]) -> Page
     }
 }
 
-// The sheet of an input of any length. A public function that stays as it was, with the output lent and a count as its answer. What is written stands at the begin of the output, whose other bytes are kept; the answer is how
-// many bytes that is. No sheet takes more bytes than the output has.
+// The sheet of an input of any length. A public function that stays as it was, with the output lent and a count as its answer. What is
+// written stands at the begin of the output, whose other bytes are kept; the answer is how many bytes that is. No sheet takes more bytes than
+// the output has.
 pub fn sheet_text(input: &[u8], output: &mut [u8; PAGE]) -> usize
     ensures length { result ≡ length (sheet_of input.now) }
     ensures text { output.new ≡ sets output.old 0 (sheet_of input.now) }
     ensures fits { result ≤ 131072 }
 {
     let text = text_of(input);
-    let bytes = text.as_bytes();
+    let bytes = text.as_slice();
     output[..bytes.len()].copy_from_slice(bytes);
     bytes.len()
 }

@@ -1,4 +1,5 @@
-// The seven values of a sheet: the codes and the sides that they are, how many samples they ask for, and what questions 1, 2 and 15 ask of them.
+// The seven values of a sheet: the codes and the sides that they are, how many samples they ask for, and what questions 1, 2 and 15 ask of
+// them.
 #![tactic(auto)]
 
 ghost use Rattle.std.specs.Prelude.{◌≡◌};
@@ -22,7 +23,7 @@ pub enum Refusal {
     Malformed,
 }
 
-// The number of the question.
+// The number of the question. By a match: its definition is over the cases.
 impl From<Refusal> for u32 {
     ghost from_gives = { λ why n. n ≡ number_of why };
 
@@ -115,7 +116,7 @@ impl Values {
         if self.depth == 8 { 255 } else { 65535 }
     }
 
-    // Questions 1 and 2, and the settings that the codes stand for.
+    // Questions 1 and 2, and the settings that the codes stand for. No `From` of the error: only those two have a refusal of a sheet.
     #[tactic(auto, unfolding(yuv_error::specs::Asked::asked))]
     pub fn settings(self) -> Result<Settings, Refusal>
         ensures { result ≡ settings_of self }

@@ -8,8 +8,8 @@ use Prim.Native.Nat.{ℕ, zero, suc, ◌+◌, ◌/◌, ◌%◌, ◌≤◌, ◌<�
 use native.Mathlib.Nat.{add-zero}
 use native.Mathlib.Omega.{arith}
 use lib.Dec.{leb}
-use lib.ListN.{length, length-append, set, drop}
-use lib.Seq.{sets, sets-eq}
+use lib.ListN.{length, length-append, set, take, drop}
+use lib.Seq.{sets, sets-eq, take_at}
 use Rattle.sheet_writing.specs.Text.{joined, leading_digit, decimal_text, number_text, Wrote}
 
 -- ---- one after the other
@@ -23,6 +23,10 @@ sets_append old at (x ∷ a) b =
 -- a text copied to the begin of a list
 pub copied_to : (text old : List ℕ) → length text ≤ length old → text ++ drop (length text) old ≡ sets old 0 text
 copied_to text old h = let e : 0 + length text ≡ length text = omega arith in sym (sets-eq text old 0 (omega arith) ∙ rw e refl)
+
+-- a text that was written from the begin on stands there
+pub text_kept : (text old : List ℕ) {new : List ℕ} {r k : ℕ} → r ≡ length text → new ≡ sets old 0 text → length old ≡ k → r ≤ k → take r new ≡ text
+text_kept text old e q l h = rw (q, sets-eq text old 0 (omega (arith, e, l))) (take_at text _ _ (sym e))
 
 pub wrote_nothing : (old : List ℕ) (at : ℕ) → Wrote old at [] old at
 wrote_nothing old at = record { place = sym (add-zero at); bytes = refl }

@@ -1,22 +1,25 @@
 -- The rule of the stored rows: antt computes it at all 110 numbers, and a lemma carries it to each line of the table. And a row that keeps the
 -- rule is found whole.
 -- Assumes nothing.
-use mathlib.Core.Path.{◌≡◌, sym}
+use mathlib.Core.Path.{◌≡◌, refl, sym, subst⁻¹}
 use mathlib.Core.Bool.{Bool, true, ◌&&◌}
 use mathlib.Core.List.{List, [], ◌∷◌}
 use Prim.Native.Nat.{ℕ, ◌<◌}
-use lib.Dec.{T, eqb, eqb→eq, eqb_refl}
+use borrow.Author.Tests.{eq-eqb}
+use lib.Dec.{T, eqb, eqb→eq}
 use lib.Ieee.{Float}
-use lib.ListN.{get_or}
+use lib.ListN.{length, get_or}
+use mir.ValLaws.{and_both}
+use Rattle.std.proofs.lemmas.List.Sums.{AllPass-from_list_all}
+use Rattle.std.specs.List.{list_all}
 use Rattle.yuv_support.specs.declared.YuvMode.TheVariants.{AsSource}
 use Rattle.yuv_support.specs.declared.CbCrInverseTransform.{CbCrInverseTransform}
 use Rattle.yuv_support.specs.Settings.{range_of, matrix_of, max_of, range_y, range_c, weight_r, weight_b, weight_g}
 use Rattle.yuv_support.specs.Coefficients.{exact_y, exact_outer, exact_inner, is_stored, stored_of}
-use Rattle.yuv_support.proofs.Tests.{both, passed}
+use Rattle.yuv_support.proofs.Tests.{passed}
 use Rattle.built_coefficients.specs.Built.{built_of}
 use Rattle.stored_rows.specs.declared.StoredRow.{StoredRow}
 use Rattle.stored_rows.specs.Rows.{KeepsRule, agreeing, found_in, found_of}
-use Rattle.stored_rows.proofs.Table.{every_at}
 
 -- the code's table
 abbrev pub rows : List (List ℕ)
@@ -56,10 +59,10 @@ same_row a b = eqb a.y b.y && (eqb a.cr b.cr && (eqb a.cb b.cb && (eqb a.g1 b.g1
 same_is : (a b : CbCrInverseTransform) → T (same_row a b) → a ≡ b
 unfolding same_row
 same_is a b h =
-    let h1 = both (eqb a.y b.y) _ h in
-    let h2 = both (eqb a.cr b.cr) _ h1.1 in
-    let h3 = both (eqb a.cb b.cb) _ h2.1 in
-    let h4 = both (eqb a.g1 b.g1) _ h3.1 in
+    let h1 = and_both (eqb a.y b.y) _ h in
+    let h2 = and_both (eqb a.cr b.cr) _ h1.1 in
+    let h3 = and_both (eqb a.cb b.cb) _ h2.1 in
+    let h4 = and_both (eqb a.g1 b.g1) _ h3.1 in
     fields (eqb→eq _ _ h1.0) (eqb→eq _ _ h2.0) (eqb→eq _ _ h3.0) (eqb→eq _ _ h4.0) (eqb→eq _ _ h4.1)
 
 -- ---- the rule at a line of the table
@@ -70,8 +73,12 @@ keeps_rule s = is_stored s.depth s.matrix && same_row s.row (stored_of s.depth s
 keeps_rule_lem : (s : StoredRow) → T (keeps_rule s) → KeepsRule s
 unfolding keeps_rule
 keeps_rule_lem s h =
-    let u = both (is_stored s.depth s.matrix) _ h in
+    let u = and_both (is_stored s.depth s.matrix) _ h in
     (u.0, same_is s.row (stored_of s.depth s.range s.matrix AsSource) u.1)
+
+-- a test that each element of a list passes, at one of them
+every_at : {A : Type 0} (test : A → Bool) (xs : List A) (default : A) → list_all test xs ≡ true → (k : ℕ) → k < length xs → T (test (get_or xs k default))
+every_at test xs default all k h = subst⁻¹ T (AllPass-from_list_all test xs all k default h) tt
 
 -- a line as a row; kr and kb, which Custom would carry, do not matter
 module _ (kr kb : Float) where
@@ -88,16 +95,13 @@ module _ (kr kb : Float) where
 
   pub line_keeps_lem : (k : ℕ) → k < 22 → KeepsRule (row_of (get_or rows k []))
   unfolding line_keeps keeps_rule same_row is_stored stored_of exact_y exact_outer exact_inner max_of range_y range_c weight_r weight_b weight_g
-  line_keeps_lem k h = keeps_rule_lem (row_of (get_or rows k [])) (every_at line_keeps rows [] tt k h)
+  line_keeps_lem k h = keeps_rule_lem (row_of (get_or rows k [])) (every_at line_keeps rows [] refl k h)
 
 -- ---- a row that keeps the rule is found whole
 
-itself : (n : ℕ) → eqb n n ≡ true
-itself n = passed (eqb n n) (eqb_refl n)
-
 agree : (a : CbCrInverseTransform) → agreeing a a ≡ 5
 unfolding agreeing
-agree a = rw (itself a.y, itself a.cr, itself a.cb, itself a.g1, itself a.g2)
+agree a = rw (eq-eqb a.y a.y refl, eq-eqb a.cr a.cr refl, eq-eqb a.cb a.cb refl, eq-eqb a.g1 a.g1 refl, eq-eqb a.g2 a.g2 refl)
 
 pub all_found : (s : StoredRow) → KeepsRule s → found_of s ≡ 5
 unfolding found_in built_of

@@ -1,5 +1,5 @@
-// Looks for each number of the source's stored rows among the coefficients that the formula gives. Prints a line for each row: depth, range and
-// matrix, the five numbers as the source has them, and `found` where `get_built_inverse_transform` gives all five, else `missing`; then how
+// Looks for each number of the source's stored rows among the coefficients that the formula gives. Prints a line for each row: depth, range
+// and matrix, the five numbers as the source has them, and `found` where `get_built_inverse_transform` gives all five, else `missing`; then how
 // many of the 110 numbers were found and how many are missing.
 #![tactic(auto)]
 
@@ -115,7 +115,7 @@ fn put_lines(rt: &impl Print) -> io::Result<u64>
     ensures { IfOk result (λ n. n ≡ 110) }
 {
     let mut n = 0;
-    // By number: that a line keeps the rule is proved of line k, where k < 22, and an iterator over the rows gives no k.
+    // By number: that a line keeps the rule is proved of line k, where k < 22. By `enumerate` the row beside k would go unused.
     for k in 0..ROWS.len() {
         n += put_line(rt, k)?;
     }

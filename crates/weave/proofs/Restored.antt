@@ -10,9 +10,9 @@ use native.Mathlib.Omega.{arith}
 use borrow.Author.Tests.{eqb-true, eqb-false}
 use lib.Dec.{eqb}
 use lib.ListN.{length, get_or}
+use Rattle.std.proofs.lemmas.Bool.{cases_lt}
 use Rattle.yuv_support.specs.Picture.{painted}
 use Rattle.yuv_support.specs.Questions.{Verdict}
-use Rattle.yuv_support.proofs.Overlay.{below_or_not}
 use Rattle.yuv_support.proofs.Rows.{Outside, painted_length, row_fits, cell_at, cell_kept}
 use Rattle.planes.specs.Woven.{Plane, lent, element_at, alternating, woven_at, woven, of_u, of_v, unwoven_at, unwoven}
 use Rattle.planes.specs.Fits.{RowsFit}
@@ -81,7 +81,7 @@ weaving_restores width height uv u v uv' first second row x hr hx =
 
 -- what stands in no row is outside of what is painted
 in_no_row : (stride n height j : ℕ) → ((row x : ℕ) → row < height → x < n → j ≡ stride * row + x → ⊥) → Outside stride n 0 height j
-in_no_row stride n height j none = by_place (below_or_not (j / stride) height) (below_or_not (j % stride) n)
+in_no_row stride n height j none = by_place (cases_lt (j / stride) height) (cases_lt (j % stride) n)
   where
     by_place : (j / stride < height) ⊎ (height ≤ j / stride) → (j % stride < n) ⊎ (n ≤ j % stride) → Outside stride n 0 height j
     by_place (inr past) _ = inr (inl (omega arith))

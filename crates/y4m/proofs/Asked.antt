@@ -4,7 +4,6 @@
 use mathlib.Core.Path.{◌≡◌, refl, sym, ap, ◌∙◌}
 use mathlib.Core.List.{List}
 use Prim.Native.Nat.{ℕ}
-use native.Mathlib.Omega.{arith}
 use Rattle.std.specs.Prelude.{Result, Ok, Err}
 use Rattle.yuv_support.specs.declared.Geometry.{Geometry}
 use Rattle.yuv_support.specs.Settings.{sampling_of}
@@ -39,19 +38,12 @@ module _ (r : Result (Unit {0}) YuvError) (n : ℕ) (v : Verdict) (is : answered
 
 -- what an answer gives that every accepted call gives
 pub given_err : {A : Type 0} (r : Result (Unit {0}) YuvError) (x : A) {e : YuvError} → giving r x ≡ Err e → r ≡ Err e
-given_err (Ok u) x h = let z : ◌≡◌ {A = ℕ} 0 1 = cc in absurd (omega arith)
+given_err (Ok u) x h = absurd (cc)
 given_err (Err f) x {e} h = let same : f ≡ e = cc in ap Err same
 
 pub given_ok : {A : Type 0} (r : Result (Unit {0}) YuvError) {x y : A} → giving r x ≡ Ok y → (r ≡ Ok tt) × (y ≡ x)
 given_ok (Ok u) h = (refl, cc)
-given_ok (Err f) h = let z : ◌≡◌ {A = ℕ} 0 1 = cc in absurd (omega arith)
-
--- the count of an answer
-pub refused_count : (r : Result (Unit {0}) YuvError) (n : ℕ) {e : YuvError} → r ≡ Err e → Err e ≡ giving r n
-refused_count r n h = rw h refl
-
-pub accepted_count : (r : Result (Unit {0}) YuvError) (n : ℕ) {u : Unit {0}} → r ≡ Ok u → Ok n ≡ giving r n
-accepted_count r n h = rw h refl
+given_ok (Err f) h = absurd (cc)
 
 -- ---- a header's and a frame's
 

@@ -61,8 +61,8 @@ module _ (e : ℕ) (s : List ℕ) (place : ℕ) (t : Strides) (l : Lengths) wher
       by_end : (ends : Bool) (r : Result (Unit {0}) YuvError) (f : Frame) → giving r (cond ends None (Some f)) ≡ Ok None
           → cond ends false (eqb (frame_answer e s place t l).number 0) ≡ false
       by_end true r f h = refl
-      by_end false (Ok u) f h = let z : ◌≡◌ {A = ℕ} 0 1 = cc in absurd (omega arith)
-      by_end false (Err x) f h = let z : ◌≡◌ {A = ℕ} 0 1 = cc in absurd (omega arith)
+      by_end false (Ok u) f h = absurd (cc)
+      by_end false (Err x) f h = absurd (cc)
 
   -- where a question gets a "no"
   error_unread : {x : YuvError} → judged_frame e s place t l ≡ Err x → is_read e s place t l ≡ false
@@ -76,23 +76,6 @@ module _ (e : ℕ) (s : List ℕ) (place : ℕ) (t : Strides) (l : Lengths) wher
       by_end true = refl
       by_end false = rw (refused, refused_number x) refl
 
-  module _ (unread : is_read e s place t l ≡ false) where
-    pub y_kept : (y : List ℕ) → y ≡ y_after e s place t l y
-    unfolding y_after
-    y_kept y = rw unread
-
-    pub u_kept : (u : List ℕ) → u ≡ u_after e s place t l u
-    unfolding u_after
-    u_kept u = rw unread
-
-    pub v_kept : (v : List ℕ) → v ≡ v_after e s place t l v
-    unfolding v_after
-    v_kept v = rw unread
-
-    told_without : {v : Verdict} → frame_answer e s place t l ≡ v → framed (as_told v) (header_said (depths_of e) s) place 0 ≡ frame_told e s place t l
-    unfolding frame_told
-    told_without {v} a = rw (unread, a) (framed_said met s v place 0)
-
   -- where the answer holds no frame
   module _ (none : option_flatten (result_ok (judged_frame e s place t l)) ≡ None) where
     pub none_unread : is_read e s place t l ≡ false
@@ -101,11 +84,12 @@ module _ (e : ℕ) (s : List ℕ) (place : ℕ) (t : Strides) (l : Lengths) wher
         by_answer : (r : Result (Option Frame) YuvError) → judged_frame e s place t l ≡ r → option_flatten (result_ok r) ≡ None
             → is_read e s place t l ≡ false
         by_answer (Ok None) is n = end_unread is
-        by_answer (Ok (Some f)) is n = let z : ◌≡◌ {A = ℕ} 0 1 = cc in absurd (omega arith)
+        by_answer (Ok (Some f)) is n = absurd (cc)
         by_answer (Err x) is n = error_unread is
 
     pub told_none : framed (as_told (answered (judged_frame e s place t l))) (header_said (depths_of e) s) place 0 ≡ frame_told e s place t l
-    told_none = told_without none_unread (sym (judged_answered e s place t l))
+    unfolding frame_told
+    told_none = rw (none_unread, ← judged_answered e s place t l) (framed_said met s (answered (judged_frame e s place t l)) place 0)
 
   -- ---- a frame that is read
 
@@ -114,9 +98,9 @@ module _ (e : ℕ) (s : List ℕ) (place : ℕ) (t : Strides) (l : Lengths) wher
     is = by_answer (judged_frame e s place t l) some
       where
         by_answer : (r : Result (Option Frame) YuvError) → option_flatten (result_ok r) ≡ Some f → r ≡ Ok (Some f)
-        by_answer (Ok None) h = let z : ◌≡◌ {A = ℕ} 0 1 = cc in absurd (omega arith)
+        by_answer (Ok None) h = absurd (cc)
         by_answer (Ok (Some g)) h = ap Ok h
-        by_answer (Err x) h = let z : ◌≡◌ {A = ℕ} 0 1 = cc in absurd (omega arith)
+        by_answer (Err x) h = absurd (cc)
 
     answer_read : frame_answer e s place t l ≡ accepted
     answer_read = sym (judged_answered e s place t l) ∙ ap answered is
@@ -128,10 +112,10 @@ module _ (e : ℕ) (s : List ℕ) (place : ℕ) (t : Strides) (l : Lengths) wher
       where
         by_end : (ends : Bool) → ends_at s place ≡ ends → (r : Result (Unit {0}) YuvError) (g : Frame) → giving r (cond ends None (Some g)) ≡ Ok (Some f)
             → (ends_at s place ≡ false) × (f ≡ g)
-        by_end true q (Ok u) g h = let z : ◌≡◌ {A = ℕ} 0 1 = cc in absurd (omega arith)
-        by_end true q (Err x) g h = let z : ◌≡◌ {A = ℕ} 0 1 = cc in absurd (omega arith)
+        by_end true q (Ok u) g h = absurd (cc)
+        by_end true q (Err x) g h = absurd (cc)
         by_end false q (Ok u) g h = (q, cc)
-        by_end false q (Err x) g h = let z : ◌≡◌ {A = ℕ} 0 1 = cc in absurd (omega arith)
+        by_end false q (Err x) g h = absurd (cc)
 
     is_read_lem : is_read e s place t l ≡ true
     unfolding is_read

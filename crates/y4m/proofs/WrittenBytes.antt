@@ -1,14 +1,13 @@
 -- What an accepted call wrote: its questions become facts of its numbers (`header_accepted`, `frame_accepted`), so that the text fits the
 -- output, and the bytes written are the text (`header_part_is`, `frame_part_is`).
 -- Assumes nothing.
-use mathlib.Core.Path.{◌≡◌, refl, subst⁻¹}
+use mathlib.Core.Path.{◌≡◌, refl, sym, subst⁻¹}
 use mathlib.Core.List.{List, [], ◌∷◌, ◌++◌}
 use Prim.Native.Nat.{ℕ, ◌≤◌}
 use native.Mathlib.Omega.{arith}
 use borrow.Author.Tests.{leb-true}
 use lib.Dec.{T}
-use lib.ListN.{length, take, length-append}
-use lib.Seq.{sets, sets-eq, take-append_seam}
+use lib.ListN.{length, length-append}
 use Rattle.yuv_support.specs.declared.Geometry.{Geometry}
 use Rattle.yuv_support.specs.declared.YuvChromaSubsampling.{YuvChromaSubsampling}
 use Rattle.yuv_support.specs.Settings.{among, sampling_of, depths}
@@ -18,6 +17,7 @@ use Rattle.yuv_support.proofs.Questions.{each_holds, both_accepted}
 use Rattle.images.specs.declared.Lengths.{Lengths}
 use Rattle.images.specs.Request.{constraints}
 use Rattle.images.proofs.Held.{Sides, sides_held}
+use Rattle.sheet_writing.proofs.Write.{text_kept}
 use Rattle.y4m_text.specs.Write.{header_text}
 use Rattle.planes.proofs.StreamPlanes.{plane_bytes_length}
 use Rattle.y4m_frames.specs.Stream.{depths_of}
@@ -73,16 +73,12 @@ frame_accepted e sampling depth i l out_length a =
 
 -- ---- the bytes written
 
--- a text that was written from the begin on
-text_kept : (text out : List ℕ) → length text ≤ length out → take (length text) (sets out 0 text) ≡ text
-text_kept text out h = rw (sets-eq text out 0 (omega arith)) (take-append_seam text _)
-
 pub header_part_is : (e : ℕ) (sampling depth width height : ℕ) (out : List ℕ)
     → (write_header_answer sampling depth width height (length out)).number ≡ 0
     → header_part e sampling depth width height out ≡ header_text sampling depth width height
 unfolding header_part header_written after_header
 header_part_is e sampling depth width height out a =
-    rw a (text_kept (header_text sampling depth width height) out (header_accepted sampling depth width height (length out) a).room)
+    rw a (text_kept (header_text sampling depth width height) out refl refl refl (header_accepted sampling depth width height (length out) a).room)
 
 pub frame_text_length : (e : ℕ) (sampling : YuvChromaSubsampling) (i : Geometry) (y u v : List ℕ) (out_length : ℕ)
     → OutputFits e sampling i (record { y = length y; u = length u; v = length v; rgb = 0 }) out_length
@@ -107,4 +103,4 @@ frame_part_is e sampling depth width height out c a =
     let i = call_image e sampling depth width height out c in
     let f = frame_accepted e sampling depth i (call_lengths e sampling depth width height out c) (length c.out) a in
     let l = frame_text_length e (sampling_of sampling) i c.y c.u c.v (length c.out) f in
-    rw (a, ← l) (text_kept (frame_text e (sampling_of sampling) i c.y c.u c.v) c.out (omega (arith, f.room)))
+    rw a (text_kept (frame_text e (sampling_of sampling) i c.y c.u c.v) c.out (sym l) refl refl (omega (arith, f.room)))

@@ -1,7 +1,8 @@
 // YUV4MPEG2 streams: the header and the frames read into lent planes, and written, for samples of
 // either width. Nothing is asked of the caller. A call that a question refuses changes no buffer.
 // Sampling and depth are codes where a stream is written: C hands them over, and questions 1 and 2
-// are asked of them. `check_format`, which each writing call asks first, gives the format.
+// are asked of them. `check_format`, which each writing call asks first, gives the format. The two
+// stay two parameters: a struct of codes would be taken apart there at once.
 #![tactic(auto)]
 
 ghost use Rattle.std.specs.Prelude.{◌≡◌, ◌≤◌, cond, leb, length, IfOk, Ok, Err};
@@ -23,7 +24,7 @@ use images::{Lengths, YuvPlanarImage};
 use planes::stream::{read_plane, write_plane};
 use sample::Sample;
 use sample::depths::{Depths, EitherElement};
-use sample::plane::{Plane, PlaneMut, Size};
+use sample::plane::{PlaneMut, Size};
 use y4m_frames::{Frame, KnownHeader, Strides};
 use y4m_text::{Format, code_of};
 use yuv_error::buffers::{ask, check_output, check_sides};
@@ -32,7 +33,7 @@ use yuv_error::{Told, YuvError};
 use yuv_support::{Geometry, YuvChromaSubsampling};
 
 // The answer of a call that reads: number, expected and received; the place to go on at; what the
-// header says; and whether a frame was read, 1 or 0.
+// header says; and whether a frame was read, 1 or 0, a number, since this is C's record.
 #[repr(C)]
 #[derive(Clone, Copy, Debug, PartialEq, Eq)]
 pub struct Y4mFrame {
@@ -134,7 +135,8 @@ fn read_planes<S: Sample>(s: &[u8], frame: Frame, y: &mut [S], u: &mut [S], v: &
 }
 
 // The frame at a place of a stream, into planes: questions 16 to 18, then 7 to 12. The place 0 is
-// the header's end.
+// the header's end: C hands the place over, and the first call has none.
+#[tactic(auto, using(crate::proofs::Reading::none_unread, crate::proofs::Reading::told_none), unfolding(crate::specs::Reading::y_after, crate::specs::Reading::u_after, crate::specs::Reading::v_after))]
 pub fn read<S: Sample>(
     stream: &[u8],
     place: u64,
@@ -158,8 +160,8 @@ pub fn read<S: Sample>(
         (lengths_of y.entry.elements.now u.entry.elements.now v.entry.elements.now)
         (S.numbers v.entry.elements.now) }
 {
-    // Taken apart, and made again below: of a plane that is lent or handed on whole, nothing is
-    // known of its elements at the end.
+    // Taken apart, and made again in `read_planes`: of a plane that is lent or handed on whole,
+    // nothing is known of its elements at the end.
     let t = Strides {
         y: y.stride,
         u: u.stride,
@@ -204,8 +206,8 @@ fn check_format<D: Depths>(sampling: u32, depth: u32, size: Size) -> Result<Form
     Ok(Format { sampling, depth })
 }
 
-// The answer of a call that writes, by the bytes that it wrote. A function and no `From`: the
-// errors of a call that reads are told in another record, and the name says in which.
+// The answer of a call that writes, by the bytes that it wrote. A function and no `From`: an `impl`
+// for `Result<usize, YuvError>` would have this body and this clause, and be no plainer.
 fn told_written(written: Result<usize, YuvError>) -> Written
     ensures { result ≡ written_by written }
 {
@@ -239,7 +241,7 @@ fn put_header(sampling: u32, depth: u32, size: Size, out: &mut [u8]) -> Result<u
 {
     let format = check_format::<EitherElement>(sampling, depth, size)?;
     let text = y4m_text::header_text(format, size);
-    let bytes = text.as_bytes();
+    let bytes = text.as_slice();
     check_output(out.len() as u64, bytes.len() as u64)?;
     put(out, bytes);
     Ok(bytes.len())
@@ -268,10 +270,7 @@ fn check_frame<S: Sample>(
         giving (asked (frame_asked S.known S.SIZE sampling depth image l out_length))
         (sampling_of sampling) }
 {
-    let size = Size {
-        width: image.width,
-        height: image.height,
-    };
+    let size = Size::from(image);
     let format = check_format::<S>(sampling, depth, size)?;
     images::check_constraints(format.sampling, image, l)?;
     let places = y4m_frames::places_of::<S>(6, format.sampling, size);
@@ -293,27 +292,12 @@ fn put_planes<S: Sample>(
         (S.numbers image.now.y_plane.now) (S.numbers image.now.u_plane.now)
         (S.numbers image.now.v_plane.now)) }
 {
-    let luma = Size {
-        width: image.width,
-        height: image.height,
-    };
+    let luma = image.size();
     let chroma = images::chroma_size(sampling, luma);
-    let y = Plane {
-        elements: image.y_plane,
-        stride: image.y_stride,
-    };
-    let u = Plane {
-        elements: image.u_plane,
-        stride: image.u_stride,
-    };
-    let v = Plane {
-        elements: image.v_plane,
-        stride: image.v_stride,
-    };
     put(out, b"FRAME\n");
-    let y_end = write_plane(out, 6, y, luma);
-    let u_end = write_plane(out, y_end, u, chroma);
-    write_plane(out, u_end, v, chroma)
+    let y_end = write_plane(out, 6, image.y(), luma);
+    let u_end = write_plane(out, y_end, image.u(), chroma);
+    write_plane(out, u_end, image.v(), chroma)
 }
 
 // A frame, at the begin of an output: questions 1 to 4, 7 to 12, then 5. The answer is how many

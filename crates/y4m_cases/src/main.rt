@@ -15,7 +15,8 @@ use y4m::{Written, Y4mFrame};
 
 // ---- what is read
 
-// The number, then the sides, the sampling, the depth, whether a frame was read, and the place to go on at.
+// Number, expected and received, then the sides, the sampling, the depth, whether a frame was read, and the place to go on at. No `Display`,
+// here and in `show_written`: the records are y4m's, and so no `impl` may be here.
 fn print_frame(rt: &impl Print, f: Y4mFrame) -> io::Result<()> {
     print!(rt;
         " {} {} {} {} {}",

@@ -1,6 +1,6 @@
 -- What a header that was read says, and question 17 of it: sides above 16,384 are told as 16,385, which question 17 refuses alike.
 -- Assumes nothing.
-use mathlib.Core.Path.{◌≡◌, refl, ap}
+use mathlib.Core.Path.{◌≡◌, refl, ap, ◌∙◌}
 use mathlib.Core.Bool.{Bool, true, false, cond, ◌&&◌, and-eq-true_iff}
 use mathlib.Core.List.{List}
 use mathlib.Core.Logic.{◌⊎◌, inl, inr}
@@ -9,17 +9,19 @@ use native.Mathlib.Omega.{arith}
 use borrow.Author.Tests.{eqb-true, le-leb, lt-leb}
 use lib.Dec.{leb, eqb}
 use Rattle.std.specs.Result.{result_ok}
-use Rattle.std.specs.Prelude.{Some, None, Ok, Err}
+use Rattle.std.specs.Prelude.{Some, None, Result, Ok, Err}
+use Rattle.std.proofs.lemmas.Bool.{cases_lt}
 use Rattle.yuv_support.specs.Settings.{among, depths8, depths16}
 use Rattle.yuv_support.specs.Questions.{verdict}
-use Rattle.yuv_support.proofs.Overlay.{below_or_not}
 use Rattle.images.proofs.Held.{Sides, sides_held}
 use Rattle.sheet_numbers.proofs.Optional.{some_met, none_unmet}
 use Rattle.y4m_lines.specs.declared.Header.{Header}
 use Rattle.y4m_lines.specs.Lines.{past_line}
 use Rattle.y4m_lines.specs.Header.{known_format, is_header, width_of, height_of, format_in}
 use Rattle.y4m_lines.specs.Read.{capped, header_read}
+use Rattle.yuv_error.specs.declared.error.YuvError.{YuvError}
 use Rattle.yuv_error.specs.declared.error.YuvError.TheVariants.{UnknownStream}
+use Rattle.y4m_frames.specs.declared.KnownHeader.{KnownHeader}
 use Rattle.y4m_frames.specs.Stream.{depths_of, sides_known, is_known}
 use Rattle.y4m_frames.specs.Judged.{known_with, known_header, said_of, header_known, header_said}
 
@@ -54,14 +56,14 @@ pub sides_known_lem : (width height : ℕ) → sides_known width height ≡ true
 sides_known_lem width height e = sides_held width height (eqb-true _ 0 e)
 
 least_same : (n : ℕ) → leb 1 (capped n) ≡ leb 1 n
-least_same n = go (below_or_not 0 n)
+least_same n = go (cases_lt 0 n)
   where
     go : (0 < n) ⊎ (n ≤ 0) → leb 1 (capped n) ≡ leb 1 n
     go (inl l) = rw (le-leb 1 n l) (le-leb 1 (capped n) (omega arith))
     go (inr l) = rw (lt-leb 1 n (omega arith)) (lt-leb 1 (capped n) (omega arith))
 
 most_same : (n : ℕ) → leb (capped n) 16384 ≡ leb n 16384
-most_same n = go (below_or_not 16384 n)
+most_same n = go (cases_lt 16384 n)
   where
     go : (16384 < n) ⊎ (n ≤ 16384) → leb (capped n) 16384 ≡ leb n 16384
     go (inl l) = rw (lt-leb n 16384 l) (lt-leb (capped n) 16384 (omega arith))
@@ -108,3 +110,12 @@ module _ {s : List ℕ} {h : Header} (is : HeaderIs s h) where
       by_known : (t : Bool) → result_ok (cond t (Ok (said_of s)) (Err UnknownStream)) ≡ cond t (Some (said_of s)) None
       by_known true = refl
       by_known false = refl
+
+-- of a header as it was read, and by samples of e bytes
+module _ (s : List ℕ) (e : ℕ) {h : Header} {known : List ℕ} {found : Result KnownHeader YuvError}
+    (read : header_read s ≡ Some h) (are : known ≡ depths_of e) (is : found ≡ known_header known h) where
+  pub found_known : found ≡ header_known (depths_of e) s
+  found_known = rw are at is ∙ known_met_of (header_is s read) e
+
+  pub found_said : result_ok found ≡ header_said (depths_of e) s
+  found_said = rw found_known (said_if_known (header_is s read) (depths_of e))

@@ -1,10 +1,10 @@
 -- The answer to a call for a frame, told by its numbers.
 -- Assumes nothing.
-use mathlib.Core.Path.{◌≡◌, refl}
+use mathlib.Core.Path.{◌≡◌, refl, ap, ◌∙◌}
 use mathlib.Core.Bool.{Bool, true, false, cond, ◌&&◌}
 use mathlib.Core.List.{List, [], ◌∷◌}
 use Prim.Native.Nat.{ℕ}
-use Rattle.yuv_support.specs.Questions.{ask}
+use Rattle.yuv_support.specs.Questions.{ask, refused}
 use Rattle.std.specs.Prelude.{Err}
 use Rattle.yuv_error.specs.declared.error.YuvError.TheVariants.{MalformedStream}
 use Rattle.yuv_error.specs.Told.{answered}
@@ -36,3 +36,6 @@ module _ (e : ℕ) (s : List ℕ) (place : ℕ) (t : Strides) (l : Lengths) wher
   pub malformed_frame : is_header s ≡ false → Err MalformedStream ≡ judged_frame e s place t l
   unfolding judged_frame asked frame_questions
   malformed_frame f = rw f
+
+  pub malformed_answer : is_header s ≡ false → refused 16 ≡ frame_answer e s place t l
+  malformed_answer f = ap answered (malformed_frame f) ∙ judged_answered

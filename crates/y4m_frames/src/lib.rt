@@ -1,6 +1,8 @@
 // Where the frames of a YUV4MPEG2 stream are, and the questions that a call for one is asked: 16 to
 // 18 of the stream, then 7 to 12 of the lent planes.
-// A text and a place in it stay two parameters: the definitions count places from the begin.
+// A text and a place in it stay two parameters: the definitions count places from the begin. So do
+// the place that is asked for and the header's end: one is C's number, and the other is read from
+// the text.
 #![tactic(auto)]
 
 ghost use Rattle.std.specs.Prelude.{◌≡◌, true, cond, ◌*◌, ◌≤◌, eqb, length, Some, IfSome, IfOk};
@@ -87,7 +89,7 @@ pub fn check_known<D: Depths>(h: Header) -> Result<KnownHeader, YuvError>
 
 // ---- the place of a frame
 
-// The place that a frame is asked for at; 0 is for the header's end.
+// The place that a frame is asked for at; 0 is for the header's end, since C hands a number over.
 fn frame_begin(place: u64, past: usize) -> usize
     ensures { result ≡ cond (eqb place 0) past place }
 {
@@ -99,6 +101,7 @@ fn frame_begin(place: u64, past: usize) -> usize
 
 // Question 16 of a place, `past` being the header's end: where the samples of its frame begin, if
 // the stream does not end there.
+#[tactic(auto, using(y4m_lines::proofs::OneLine::frame_within), unfolding(crate::specs::Stream::is_place, crate::specs::Stream::ends_at))]
 fn samples_at(s: &[u8], place: u64, past: usize) -> Result<Option<usize>, YuvError>
     requires { past ≡ past_line s.now 0 }
     ensures found { result ≡ samples_at s.now place }
@@ -127,6 +130,7 @@ fn bytes_of<S: Sample>(size: Size) -> usize
 }
 
 // Where the planes of a frame are whose samples begin at a place.
+#[tactic(auto, using(crate::proofs::Sizes::bytes_most, crate::proofs::Sizes::chroma_most))]
 pub fn places_of<S: Sample>(at: usize, sampling: YuvChromaSubsampling, size: Size) -> Places
     requires { (size.width ≤ 16384) × (size.height ≤ 16384) × (at ≤ 9223372036854775808) }
     ensures { result ≡ places_of S.SIZE at sampling size.width size.height }
@@ -203,6 +207,7 @@ fn check_frame<S: Sample>(
 }
 
 // All questions of a frame.
+#[tactic(auto, using(crate::proofs::Told::malformed_frame, crate::proofs::Told::malformed_answer, crate::proofs::Told::judged_answered), unfolding(y4m_lines::specs::Read::header_read))]
 pub fn judge<S: Sample>(s: &[u8], place: u64, t: Strides, l: Lengths) -> Judged
     ensures header { result.header ≡ header_said (depths_of S.SIZE) s.now }
     ensures frame { result.frame ≡ judged_frame S.SIZE s.now place t l }

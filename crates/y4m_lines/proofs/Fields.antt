@@ -87,7 +87,11 @@ all_some (f ∷ fs) = rw (some f, all_some fs) refl
 
 -- ---- those that are left in a loop, after n of them
 
-module _ (fs : List (List ℕ)) (n : ℕ) (f : List ℕ) (h : (n < length fs) × (f ≡ get_or fs n f)) where
+-- f is field n of the list
+abbrev pub FieldAt : List (List ℕ) → ℕ → List ℕ → Type 0
+FieldAt fs n f = (n < length fs) × (f ≡ get_or fs n f)
+
+module _ (fs : List (List ℕ)) (n : ℕ) (f : List ℕ) (h : FieldAt fs n f) where
   pub named_left : (letter : ℕ) → named letter (drop n fs) ≡ behind letter f ++ named letter (drop (n + 1) fs)
   unfolding named
   named_left letter =
@@ -100,8 +104,8 @@ named_end letter fs n {told} e l = e ∙ ap (λ gs. told ++ gs) (at_drop_all (na
 
 -- ---- those of a letter: `told` are those of the first n fields
 
-module _ (fs : List (List ℕ)) (n : ℕ) (f : List ℕ) (h : (n < length fs) × (f ≡ get_or fs n f)) (letter : ℕ) (told : List (List ℕ))
-    (t : named letter fs ≡ told ++ named letter (drop n fs)) where
+module _ (fs : List (List ℕ)) (n : ℕ) (f : List ℕ) (h : FieldAt fs n f) (letter : ℕ)
+    (told : List (List ℕ)) (t : named letter fs ≡ told ++ named letter (drop n fs)) where
   -- the field is another's
   pub told_other : behind letter f ≡ [] → named letter fs ≡ told ++ named letter (drop (n + 1) fs)
   told_other b = t ∙ ap (λ gs. told ++ gs) (named_left fs n f h letter ∙ rw b refl)
@@ -126,8 +130,8 @@ behind_other letter {f} {first} {text} parts other = rw (parts, ne_eqb first let
 
 pub none_copied : (o : Option (Bor (List ℕ))) → is_some o ≡ false → option_to_list (option_copied o) ≡ []
 none_copied None e = refl
-none_copied (Some x) e = let z : ◌≡◌ {A = ℕ} 0 1 = cc in absurd (omega arith)
+none_copied (Some x) e = absurd (cc)
 
 pub some_copied : (o : Option (Bor (List ℕ))) → is_some o ≡ true → 1 ≤ length (option_to_list (option_copied o))
-some_copied None e = let z : ◌≡◌ {A = ℕ} 0 1 = cc in absurd (omega arith)
+some_copied None e = absurd (cc)
 some_copied (Some x) e = omega arith

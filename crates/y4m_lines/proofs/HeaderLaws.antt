@@ -14,6 +14,7 @@ use Rattle.std.specs.Option.{option_copied, option_to_list}
 use Rattle.std.specs.Result.{IsErr, result_ok}
 use Rattle.sheet_numbers.specs.Read.{begins_with}
 use Rattle.sheet_numbers.proofs.Begins.{starts_begins}
+use Rattle.sheet_numbers.proofs.Optional.{some_met, none_unmet}
 use Rattle.y4m_text.specs.Words.{header_word}
 use Rattle.yuv_support.specs.declared.YuvChromaSubsampling.TheVariants.{Yuv420}
 use Rattle.y4m_text.specs.declared.Format.{Format}
@@ -47,7 +48,7 @@ module _ (texts : List (List ℕ)) (r : Result (Option (Bor (List ℕ))) Repeate
     where
       by_result : (r : Result (Option (Bor (List ℕ))) Repeated)
           → FieldRead texts r → result_ok r ≡ None → None ≡ side_read texts
-      by_result (Ok text) m e = let z : ◌≡◌ {A = ℕ} 0 1 = cc in absurd (omega arith)
+      by_result (Ok text) m e = absurd (cc)
       by_result (Err f) m e = side_several texts m
 
   module _ {o : Option (Bor (List ℕ))} (is : result_ok r ≡ Some o) where
@@ -58,7 +59,7 @@ module _ (texts : List (List ℕ)) (r : Result (Option (Bor (List ℕ))) Repeate
             → FieldRead texts r → result_ok r ≡ Some o
             → texts ≡ option_to_list (option_copied o)
         by_result (Ok text) m e = let same : text ≡ o = cc in rw same at m
-        by_result (Err f) m e = let z : ◌≡◌ {A = ℕ} 0 1 = cc in absurd (omega arith)
+        by_result (Err f) m e = absurd (cc)
 
     pub side_of_none : o ≡ None → None ≡ side_read texts
     side_of_none e = side_absent (rw e at found_ok)
@@ -79,40 +80,25 @@ unfolding is_colour
 colour_several [] r e h = absurd (omega arith)
 colour_several (text ∷ []) r e h = absurd (omega arith)
 colour_several (text ∷ second ∷ more) (Err f) e h = refl
-colour_several (text ∷ second ∷ more) (Ok x) e h = let z : ◌≡◌ {A = ℕ} 0 1 = cc in absurd (omega arith)
-
--- which of two was chosen, where the answer is not the other
-taken : {A : Type 0} (t : Bool) {a b x : A} → x ≡ cond t a b → (x ≡ b → ◌≡◌ {A = ℕ} 0 1) → (t ≡ true) × (x ≡ a)
-taken true e h = (refl, e)
-taken false e h = let z = h e in absurd (omega arith)
-
-left : {A : Type 0} (t : Bool) (b : A) {a x : A} → x ≡ cond t a b → (x ≡ a → ◌≡◌ {A = ℕ} 0 1) → t ≡ false
-left true b e h = let z = h e in absurd (omega arith)
-left false b e h = refl
+colour_several (text ∷ second ∷ more) (Ok x) e h = absurd (cc)
 
 side_is : (texts : List (List ℕ)) {value : ℕ} → Some value ≡ side_read texts → (is_side texts ≡ true) × (value ≡ capped (side_of texts))
-side_is texts e =
-    let f = taken (is_side texts) e (λ q. cc) in
-    (f.0, let g = f.1 in cc)
+side_is texts {value} e = some_met (is_side texts) _ value (sym e)
 
 no_side : (texts : List (List ℕ)) → None ≡ side_read texts → is_side texts ≡ false
-no_side texts e = left (is_side texts) None e (λ q. cc)
+no_side texts e = none_unmet (is_side texts) _ (sym e)
+
+-- what an answer by a test leaves of its `Ok`
+ok_if : {A E : Type 0} (t : Bool) (a : A) (f : E) → cond t (Some a) None ≡ result_ok (cond t (Ok a) (Err f))
+ok_if true a f = refl
+ok_if false a f = refl
 
 colour_is : (texts : List (List ℕ)) {found : Option Format} → result_ok (colour_read texts) ≡ Some found
     → (is_colour texts ≡ true) × (found ≡ known_format (colour_of texts))
-colour_is texts {found} e = by_test (is_colour texts) e
-  where
-    by_test : (t : Bool) → result_ok {E = Repeated} (cond t (Ok (known_format (colour_of texts))) (Err (record {}))) ≡ Some found
-        → (t ≡ true) × (found ≡ known_format (colour_of texts))
-    by_test true h = (refl, cc)
-    by_test false h = let z : ◌≡◌ {A = ℕ} 0 1 = cc in absurd (omega arith)
+colour_is texts {found} e = some_met (is_colour texts) _ found (ok_if (is_colour texts) _ _ ∙ e)
 
 no_colour : (texts : List (List ℕ)) → result_ok (colour_read texts) ≡ None → is_colour texts ≡ false
-no_colour texts e = by_test (is_colour texts) e
-  where
-    by_test : (t : Bool) → result_ok {E = Repeated} (cond t (Ok (known_format (colour_of texts))) (Err (record {}))) ≡ None → t ≡ false
-    by_test true h = let z : ◌≡◌ {A = ℕ} 0 1 = cc in absurd (omega arith)
-    by_test false h = refl
+no_colour texts e = none_unmet (is_colour texts) _ (ok_if (is_colour texts) _ _ ∙ e)
 
 -- ---- what reading the header answers
 
@@ -121,56 +107,63 @@ pub worded : (text : List ℕ) {b t : Bool} → b ≡ pointwise eqb header_word 
     → begins_with text header_word ≡ t
 worded text starts is = sym (starts_begins text header_word refl) ∙ (sym starts ∙ is)
 
-first_text : {s : List ℕ} {end : ℕ} → Lined s 0 end → take end s ≡ line_at s 0
-first_text {s} {end} l = let e : end ≡ end - 0 = omega arith in rw e l.text
-
 pub no_line : (s : List ℕ) → is_line s 0 ≡ false → None ≡ header_read s
 unfolding header_read is_header
 no_line s e = rw e
+
+first_text : {s : List ℕ} {end : ℕ} → Lined s 0 end → take end s ≡ line_at s 0
+first_text {s} {end} l = let e : end ≡ end - 0 = omega arith in rw e l.text
 
 module _ {s : List ℕ} {end : ℕ} (l : Lined s 0 end) where
   pub no_word : begins_with (take end s) header_word ≡ false → None ≡ header_read s
   unfolding header_read is_header
   no_word w = rw (l.formed, rw (first_text l) at w)
 
-  module _ (w : begins_with (take end s) header_word ≡ true) where
-    pub one_empty : none_empty (fields (take end s)) ≡ false → None ≡ header_read s
-    unfolding header_read is_header
-    one_empty n = rw (l.formed, rw (first_text l) at w, rw (first_text l) at n)
+  pub one_empty : begins_with (take end s) header_word ≡ true → none_empty (fields (take end s)) ≡ false → None ≡ header_read s
+  unfolding header_read is_header
+  one_empty w n = rw (l.formed, rw (first_text l) at w, rw (first_text l) at n)
 
-    module _ (n : none_empty (fields (take end s)) ≡ true) where
-      -- so that the sides and the colour are left
-      sides_left : is_header s ≡ is_side (widths s) && (is_side (heights s) && is_colour (colours s))
-      unfolding is_header
-      sides_left = rw (l.formed, rw (first_text l) at w, rw (first_text l) at n)
+-- the line that ends at `end` begins with the word, and has no empty field
+pub record Begun (s : List ℕ) (end : ℕ) : Type 0 where
+  pub line : Lined s 0 end
+  pub word : begins_with (take end s) header_word ≡ true
+  pub full : none_empty (fields (take end s)) ≡ true
 
-      pub no_width : None ≡ side_read (named 87 (fields (take end s))) → None ≡ header_read s
+-- so that the sides and the colour are left
+module _ {s : List ℕ} {end : ℕ} (b : Begun s end) where
+  text : take end s ≡ line_at s 0
+  text = first_text b.line
+
+  sides_left : is_header s ≡ is_side (widths s) && (is_side (heights s) && is_colour (colours s))
+  unfolding is_header
+  sides_left = rw (b.line.formed, rw text at b.word, rw text at b.full)
+
+  -- by what reading each came to
+  module _ {x : Option ℕ} (x_read : x ≡ side_read (named 87 (fields (take end s)))) where
+    pub no_width : x ≡ None → None ≡ header_read s
+    unfolding header_read
+    no_width e = rw (sides_left, no_side (widths s) (rw text at (sym e ∙ x_read)))
+
+    module _ {width : ℕ} (x_is : x ≡ Some width) {y : Option ℕ} (y_read : y ≡ side_read (named 72 (fields (take end s)))) where
+      wide : (is_side (widths s) ≡ true) × (width ≡ capped (side_of (widths s)))
+      wide = side_is (widths s) (rw text at (sym x_is ∙ x_read))
+
+      pub no_height : y ≡ None → None ≡ header_read s
       unfolding header_read
-      no_width e = rw (sides_left, no_side (widths s) (rw (first_text l) at e))
+      no_height e = rw (sides_left, wide.0, no_side (heights s) (rw text at (sym e ∙ y_read)))
 
-      module _ {width : ℕ} (wide : Some width ≡ side_read (named 87 (fields (take end s)))) where
-        pub no_height : None ≡ side_read (named 72 (fields (take end s))) → None ≡ header_read s
+      module _ {height : ℕ} (y_is : y ≡ Some height)
+          {r : Result (Option Format) Repeated} (r_read : r ≡ colour_read (named 67 (fields (take end s)))) where
+        high : (is_side (heights s) ≡ true) × (height ≡ capped (side_of (heights s)))
+        high = side_is (heights s) (rw text at (sym y_is ∙ y_read))
+
+        pub two_colours : result_ok r ≡ None → None ≡ header_read s
         unfolding header_read
-        no_height e = rw (sides_left, (side_is (widths s) (rw (first_text l) at wide)).0, no_side (heights s) (rw (first_text l) at e))
+        two_colours e = rw (sides_left, wide.0, high.0, no_colour (colours s) (rw (rw text at r_read) at e))
 
-        module _ {height : ℕ} (high : Some height ≡ side_read (named 72 (fields (take end s)))) where
-          -- by what reading the colour came to
-          module _ {r : Result (Option Format) Repeated} (read : r ≡ colour_read (named 67 (fields (take end s)))) where
-            pub two_colours : result_ok r ≡ None → None ≡ header_read s
-            unfolding header_read
-            two_colours is =
-                rw (
-                  sides_left,
-                  (side_is (widths s) (rw (first_text l) at wide)).0,
-                  (side_is (heights s) (rw (first_text l) at high)).0,
-                  no_colour (colours s) (rw (rw (first_text l) at read) at is),
-                )
-
-            pub whole_header : {found : Option Format} → result_ok r ≡ Some found
-                → Some (record { width = width; height = height; format = found; past = end + 1 }) ≡ header_read s
-            unfolding header_read width_of height_of format_in
-            whole_header is =
-                let a = side_is (widths s) (rw (first_text l) at wide) in
-                let b = side_is (heights s) (rw (first_text l) at high) in
-                let f = colour_is (colours s) (rw (rw (first_text l) at read) at is) in
-                rw (sides_left, a.0, b.0, f.0, a.1, b.1, f.1, l.place)
+        pub whole_header : {found : Option Format} → result_ok r ≡ Some found
+            → Some (record { width = width; height = height; format = found; past = end + 1 }) ≡ header_read s
+        unfolding header_read width_of height_of format_in
+        whole_header e =
+            let f = colour_is (colours s) (rw (rw text at r_read) at e) in
+            rw (sides_left, wide.0, high.0, f.0, wide.1, high.1, f.1, b.line.place)

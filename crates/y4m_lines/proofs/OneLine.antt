@@ -12,7 +12,7 @@ use lib.Dec.{eqb, ltb}
 use lib.ListN.{length, take, drop, length-drop}
 use lib.Pointwise.{pointwise}
 use Rattle.std.specs.List.{prefix_len}
-use Rattle.yuv_support.proofs.Overlay.{below_or_not}
+use Rattle.std.proofs.lemmas.Bool.{cases_lt}
 use Rattle.sheet_numbers.specs.Read.{begins_with}
 use Rattle.sheet_numbers.proofs.Begins.{starts_begins}
 use Rattle.sheet_numbers.proofs.Optional.{some_met, none_unmet}
@@ -25,7 +25,13 @@ use Rattle.y4m_lines.proofs.Fields.{before_take, before_within, before_count}
 
 -- `end` is the number of bytes before the first byte 10 of the `most` that are looked at
 module _ (s : List ℕ) (at : ℕ) {most end : ℕ} (bound : most ≡ min (length s - at) 256)
-    (found : end ≡ length (before 10 (take most (drop at s)))) where
+    (counted : end ≡ prefix_len (λ x. not (eqb x 10)) (take (at + most - at) (drop at s))) where
+  -- those that are looked at are the first `most` from the place on
+  found : end ≡ length (before 10 (take most (drop at s)))
+  found =
+      let all : at + most - at ≡ most = omega arith in
+      rw all at (counted ∙ before_count 10 (take (at + most - at) (drop at s)))
+
   pub line_found : end < most → Some (at + end) ≡ line_read s at
   unfolding is_line
   line_found h =
@@ -37,7 +43,7 @@ module _ (s : List ℕ) (at : ℕ) {most end : ℕ} (bound : most ≡ min (lengt
 
   pub line_missed : most ≤ end → None ≡ line_read s at
   unfolding is_line
-  line_missed h = go (below_or_not (length (line_at s at)) (length (drop at s)))
+  line_missed h = go (cases_lt (length (line_at s at)) (length (drop at s)))
     where
       go : (length (line_at s at) < length (drop at s)) ⊎ (length (drop at s) ≤ length (line_at s at)) → None ≡ line_read s at
       go (inl l) =
@@ -75,9 +81,6 @@ lined s at {end} e m =
 
 -- ---- what a caller knows of a frame line that was read
 
-pub frame_missed : (s : List ℕ) (at : ℕ) {result : Option ℕ} → result ≡ frame_line_read s at → result ≡ None → is_frame_line s at ≡ false
-frame_missed s at e m = none_unmet (is_frame_line s at) (at + length (line_at s at)) (sym e ∙ m)
-
 pub frame_lined : (s : List ℕ) (at : ℕ) {end : ℕ} {result : Option ℕ} → result ≡ frame_line_read s at → result ≡ Some end
     → (is_frame_line s at ≡ true) × Lined s at end
 unfolding is_frame_line
@@ -87,35 +90,41 @@ frame_lined s at {end} e m =
     let r : Some end ≡ line_read s at = rw (l, u.1) in
     (u.0, lined s at r refl)
 
+pub frame_within : (s : List ℕ) (at : ℕ) {end : ℕ} {result : Option ℕ} → result ≡ frame_line_read s at → result ≡ Some end → end + 1 ≤ length s
+frame_within s at e m = omega (arith, (frame_lined s at e m).1.within)
+
 -- ---- what reading a frame line answers
 
 pub frame_none : (s : List ℕ) (at : ℕ) → is_line s at ≡ false → None ≡ frame_line_read s at
 unfolding is_frame_line
 frame_none s at e = rw e
 
-module _ {s : List ℕ} {at end : ℕ} (l : Lined s at end) where
-  -- what is asked of the line's text, by the library's `starts_with`, `find` and `none_empty`
-  pub frame_worded : {b t : Bool}
-      → b ≡ pointwise eqb frame_word (take (length frame_word) (take (end - at) (drop at s))) → b ≡ t
-      → begins_with (line_at s at) frame_word ≡ t
-  frame_worded starts is = rw l.text at (sym (starts_begins (take (end - at) (drop at s)) frame_word refl) ∙ (sym starts ∙ is))
+-- by the line that was read, and what is asked of it: the library's `starts_with`, `find` and `none_empty`
+module _ (s : List ℕ) (at : ℕ) {end : ℕ} {result : Option ℕ} (read : result ≡ line_read s at) (is : result ≡ Some end)
+    {starts : Bool} (asked : starts ≡ pointwise eqb frame_word (take (length frame_word) (take (end - at) (drop at s)))) where
+  line : Lined s at end
+  line = lined s at read is
 
-  pub frame_first : {n : ℕ} → n ≡ prefix_len (λ x. not (eqb x 32)) (take (end - at) (drop at s)) → n ≡ length (before 32 (line_at s at))
-  frame_first found = rw l.text at (found ∙ before_count 32 (take (end - at) (drop at s)))
+  worded : {t : Bool} → starts ≡ t → begins_with (line_at s at) frame_word ≡ t
+  worded w = rw line.text at (sym (starts_begins (take (end - at) (drop at s)) frame_word refl) ∙ (sym asked ∙ w))
 
-  frame_parts : is_frame_line s at ≡ begins_with (line_at s at) frame_word && (eqb (length (before 32 (line_at s at))) 5 && none_empty (fields (line_at s at)))
+  parts : is_frame_line s at ≡ begins_with (line_at s at) frame_word && (eqb (length (before 32 (line_at s at))) 5 && none_empty (fields (line_at s at)))
   unfolding is_frame_line
-  frame_parts = rw l.formed
+  parts = rw line.formed
 
-  pub frame_other : begins_with (line_at s at) frame_word ≡ false → None ≡ frame_line_read s at
-  frame_other w = rw (frame_parts, w)
+  pub frame_other : starts ≡ false → None ≡ frame_line_read s at
+  frame_other w = rw (parts, worded w)
 
-  module _ (w : begins_with (line_at s at) frame_word ≡ true) where
-    pub frame_longer : (length (before 32 (line_at s at)) ≡ 5 → ⊥) → None ≡ frame_line_read s at
-    frame_longer f = rw (frame_parts, w, ne_eqb _ _ f)
+  module _ (w : starts ≡ true) where
+    pub frame_empty : {full : Bool} → full ≡ none_empty (fields (take (end - at) (drop at s))) → full ≡ false → None ≡ frame_line_read s at
+    frame_empty m n = rw (parts, worded w, rw line.text at (sym m ∙ n), and-false (eqb (length (before 32 (line_at s at))) 5))
 
-    pub frame_empty : none_empty (fields (line_at s at)) ≡ false → None ≡ frame_line_read s at
-    frame_empty n = rw (frame_parts, w, n, and-false (eqb (length (before 32 (line_at s at))) 5))
+    module _ {n : ℕ} (found : n ≡ prefix_len (λ x. not (eqb x 32)) (take (end - at) (drop at s))) where
+      first : n ≡ length (before 32 (line_at s at))
+      first = rw line.text at (found ∙ before_count 32 (take (end - at) (drop at s)))
 
-    pub frame_formed : length (before 32 (line_at s at)) ≡ 5 → none_empty (fields (line_at s at)) ≡ true → Some end ≡ frame_line_read s at
-    frame_formed f n = rw (frame_parts, w, eq-eqb _ _ f, n, l.place)
+      pub frame_longer : (n ≡ 5 → ⊥) → None ≡ frame_line_read s at
+      frame_longer f = rw (parts, worded w, ne_eqb _ _ (λ e. f (first ∙ e)))
+
+      pub frame_formed : n ≡ 5 → {full : Bool} → full ≡ none_empty (fields (take (end - at) (drop at s))) → full ≡ true → Some end ≡ frame_line_read s at
+      frame_formed f m t = rw (parts, worded w, eq-eqb _ _ (sym first ∙ f), rw line.text at (sym m ∙ t), line.place)

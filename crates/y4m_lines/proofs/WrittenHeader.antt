@@ -10,9 +10,10 @@ use borrow.Author.Tests.{lt-ltb, le-leb, eq-eqb, ne_eqb}
 use lib.Dec.{T, eqb, leb}
 use lib.ListN.{length, length-append}
 use lib.Seq.{drop-append_seam, append_snoc}
+use mir.ValLaws.{and_both}
 use Rattle.yuv_support.specs.Settings.{among, sampling_of, depths}
 use Rattle.yuv_support.proofs.Depths.{by_depth}
-use Rattle.yuv_support.proofs.Tests.{both, failed}
+use Rattle.yuv_support.proofs.Tests.{failed}
 use Rattle.sheet_writing.specs.Text.{decimal_text, number_text}
 use Rattle.sheet_writing.proofs.Write.{number_text_length}
 use Rattle.sheet_numbers.specs.Numbers.{decimal, all_below}
@@ -31,7 +32,7 @@ free b (x ∷ xs) = not (eqb x b) && free b xs
 free_append : (b : ℕ) (xs ys : List ℕ) → T (free b xs) → T (free b ys) → T (free b (xs ++ ys))
 free_append b [] ys f g = g
 free_append b (x ∷ xs) ys f g =
-    let p = both (not (eqb x b)) (free b xs) f in
+    let p = and_both (not (eqb x b)) (free b xs) f in
     rw (failed (eqb x b) p.0) (free_append b xs ys p.1 g)
 
 digits_free : (b : ℕ) (xs : List ℕ) → b < 48 → Digits xs → T (free b xs)
@@ -46,21 +47,21 @@ before_free : (b : ℕ) (xs ys : List ℕ) → T (free b xs) → before b (xs ++
 unfolding before
 before_free b [] ys f = rw (eq-eqb b b refl)
 before_free b (x ∷ xs) ys f =
-    let p = both (not (eqb x b)) (free b xs) f in
+    let p = and_both (not (eqb x b)) (free b xs) f in
     rw (failed (eqb x b) p.0, before_free b xs ys p.1)
 
 field_then : (xs ys : List ℕ) → T (free 32 xs) → fields (xs ++ 32 ∷ ys) ≡ xs ∷ fields ys
 unfolding fields
 field_then [] ys f = refl
 field_then (x ∷ xs) ys f =
-    let p = both (not (eqb x 32)) (free 32 xs) f in
+    let p = and_both (not (eqb x 32)) (free 32 xs) f in
     rw (failed (eqb x 32) p.0, field_then xs ys p.1)
 
 field_last : (xs : List ℕ) → T (free 32 xs) → fields xs ≡ xs ∷ []
 unfolding fields
 field_last [] f = refl
 field_last (x ∷ xs) f =
-    let p = both (not (eqb x 32)) (free 32 xs) f in
+    let p = and_both (not (eqb x 32)) (free 32 xs) f in
     rw (failed (eqb x 32) p.0, field_last xs p.1)
 
 not_empty : (x : ℕ) (xs : List ℕ) → leb 1 (length (x ∷ xs)) ≡ true

@@ -79,7 +79,8 @@ fn cap(n: u32) -> u32
     n.min(16385)
 }
 
-// The number that a field's text makes.
+// The number that a field's text makes. By hand: a number of any length is read, and capped, where
+// `parse` would refuse one that is too large.
 fn read_number(text: &[u8]) -> Option<u32>
     ensures { result ≡ number_read text.now }
 {

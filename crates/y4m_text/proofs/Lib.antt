@@ -1,3 +1,2 @@
-pub mod Texts
 pub mod ReadBack
 pub mod Codes

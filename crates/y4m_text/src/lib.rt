@@ -4,8 +4,9 @@
 ghost use Rattle.std.specs.Prelude.{◌≡◌, ◌≤◌, length};
 ghost use Rattle.y4m_text.specs.Write.{code_of, name_of, header_text};
 
+use arrayvec::ArrayVec;
 use sample::plane::Size;
-use sheet_writing::Text;
+use sheet_writing::{push_bytes, push_number};
 use yuv_support::YuvChromaSubsampling;
 
 // The sampling and the depth of a stream.
@@ -16,7 +17,7 @@ pub struct Format {
 }
 
 // The code of a sampling: C is handed the code, and the definitions of the text are over it. No
-// `From`: neither the sampling's type nor u32 is this crate's own.
+// `From`: streams alone give a code back, and no other case of a setting has a number.
 pub fn code_of(sampling: YuvChromaSubsampling) -> u32
     ensures { result ≡ code_of sampling }
 {
@@ -44,19 +45,19 @@ fn name_of(format: Format) -> &'static [u8]
 
 // The header line of a stream.
 #[tactic(auto, unfolding(crate::specs::Write::header_text))]
-pub fn header_text(format: Format, size: Size) -> Text<40>
-    ensures text { result
+pub fn header_text(format: Format, size: Size) -> ArrayVec<u8, 40>
+    ensures text { result.items
         ≡ header_text (code_of format.sampling) format.depth size.width size.height }
-    ensures most { length result ≤ 40 }
+    ensures most { length result.items ≤ 40 }
 {
-    let mut text: Text<40> = Text::new();
-    text.push_bytes(b"YUV4MPEG2 ");
+    let mut text: ArrayVec<u8, 40> = ArrayVec::new();
+    push_bytes(&mut text, b"YUV4MPEG2 ");
     text.push(b'W');
-    text.push_number(size.width);
-    text.push_bytes(b" H");
-    text.push_number(size.height);
-    text.push_bytes(b" C");
-    text.push_bytes(name_of(format));
+    push_number(&mut text, size.width);
+    push_bytes(&mut text, b" H");
+    push_number(&mut text, size.height);
+    push_bytes(&mut text, b" C");
+    push_bytes(&mut text, name_of(format));
     text.push(b'\n');
     text
 }

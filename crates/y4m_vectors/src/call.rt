@@ -28,13 +28,14 @@ impl TryFrom<u64> for Kind {
     }
 }
 
-// A plane that is lent: its stride, and how many elements it has.
+// A plane that is lent: its stride, and how many elements it has. As usize, since a vector of so many is made: a `Buffer` has u64.
 #[derive(Clone, Copy)]
 struct Room {
     stride: u32,
     length: usize,
 }
 
+// A call of the list. A header's has a place and planes too, which are not looked at: the calls of the list have one form.
 #[derive(Clone, Copy)]
 pub struct Call<'a> {
     kind: Kind,

@@ -26,7 +26,8 @@ impl<'a> List<'a> {
         Ok(first)
     }
 
-    // The number of the next n bytes, the high byte first.
+    // The number of the next n bytes, the high byte first. By a fold: n is 8 or the size of a
+    // sample, and `from_be_bytes` is of one size.
     fn number(&mut self, n: usize) -> io::Result<u64> {
         let bytes = self.take(n)?;
         Ok(

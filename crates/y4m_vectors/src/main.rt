@@ -5,7 +5,8 @@
 // A call is 18 numbers of 8 bytes, the high byte first, then the bytes of the stream, then the elements of the Y, U and V planes after the
 // call, one byte each in kind 1 and two, the high byte first, in kind 2. The numbers: 0 the kind, 0 for the header alone, 1 for a read into
 // planes of bytes, 2 into planes of u16; 1 the stream's length; 2 the place; 3 to 5 the strides of Y, U and V; 6 to 8 their lengths, 0 in
-// kind 0; 9 to 12 number, expected, received and next; 13 to 17 width, height, sampling, depth and found. Before the call every element is 170.
+// kind 0; 9 to 12 number, expected, received and next; 13 to 17 width, height, sampling, depth and found. Before the call every element is
+// 170.
 #![tactic(auto)]
 
 mod call;
@@ -20,7 +21,8 @@ use std::io::Read;
 // For each call of the list, whether it is answered as the list says.
 fn replay(alloc: Global, mut list: List<'_>) -> io::Result<Vec<bool>> {
     let mut answers = Vec::new(alloc);
-    // A `for` over at most 2^64 - 1 calls and no `while`: no contract of `Call::read` says that the list gets shorter, so that a `while` ends.
+    // A `for` over at most 2^64 - 1 calls and no `while`: no contract of `Call::read` says that the list gets shorter, so that a `while`
+    // ends.
     for _ in 0..u64::MAX {
         if list.is_empty() {
             break;

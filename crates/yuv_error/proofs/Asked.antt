@@ -1,6 +1,7 @@
 -- The error of the first question that gets a "no", told by its numbers, is the verdict.
 -- Assumes nothing.
 use Rattle.std.proofs.Common.{◌≡◌, refl, sym, Bool, true, false, List, [], ◌∷◌, ◌++◌, cond, Result, Ok, Err, IfOk}
+use lib.Lanes.{Each1}
 use Rattle.yuv_support.specs.Questions.{Question, verdict}
 use Rattle.yuv_error.specs.declared.error.YuvError.{YuvError}
 use Rattle.yuv_error.specs.Told.{told, answered, answered_or}
@@ -8,8 +9,7 @@ use Rattle.yuv_error.specs.Asked.{error_of, asked, giving, Precedes}
 
 -- the error of each question has the question's number and sizes
 abbrev pub AllTold : List Question → Type 0
-AllTold [] = Unit {0}
-AllTold (q ∷ qs) = (told (error_of q) ≡ record { number = q.number; expected = q.expected; received = q.received }) × AllTold qs
+AllTold = Each1 (λ q. told (error_of q) ≡ record { number = q.number; expected = q.expected; received = q.received })
 
 pub precedes : {T : Type 0} (x : T) (qs : List Question) → AllTold qs → Precedes (giving (asked qs) x) qs
 unfolding verdict asked

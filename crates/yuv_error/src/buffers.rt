@@ -105,7 +105,8 @@ pub fn check_rgba_destination(rgb: Buffer, size: Size) -> Result<(), YuvError>
 }
 
 impl Channel {
-    // The error of a plane whose stride is less than its row. By a match, as `short` is: each plane has a case of its own in `YuvError`, as in the source.
+    // The error of a plane whose stride is less than its row. By a match, as `short` is: each plane has a case of its own in
+    // `YuvError`, since document 01 gives each a number.
     fn narrow(self, size: MismatchedSize) -> YuvError
         ensures { result ≡ named (first_question self) size }
     {

@@ -1,4 +1,4 @@
-// What a refused call answers. The names are the source's; its one name for the four chroma questions is four here.
+// What a refused call answers. The names of 3 to 12 are the source's; its one name for the four chroma questions is four here.
 ghost use Rattle.std.specs.Prelude.{◌≡◌};
 ghost use Rattle.yuv_error.specs.declared.error.YuvError.TheVariants.{UnknownCode};
 
@@ -13,7 +13,7 @@ pub struct MismatchedSize {
     pub received: u64,
 }
 
-// The question that got the first "no". Some cases have sizes and some none, as in the source.
+// The question that got the first "no". Some cases have sizes and some none: document 01 tells two sizes of these questions alone.
 #[derive(Clone, Copy, Debug, PartialEq, Eq)]
 pub enum YuvError {
     // 1, where the source panics

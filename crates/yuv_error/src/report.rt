@@ -1,5 +1,7 @@
 // The numbers that an answer is handed out by: number, expected and received of an error, and three zeros where the call is accepted.
-// `told_of`, `report_of` and `band_report_of` are functions and no `From`: an answer is told in several records, and the name says in which.
+// `told_of`, `report_of`, `answer_alone` and `band_report_of` are public functions that stay, and no `From`: the first is of any result, and
+// the last needs the first row too.
+// Number, expected and received stand in each record, and no `Told` in it: C's records are flat.
 ghost use Rattle.std.specs.Prelude.{◌≡◌, ◌+◌, ◌<◌, ◌^◌};
 ghost use Rattle.yuv_support.specs.Counts.{unclipped};
 ghost use Rattle.yuv_support.specs.Questions.{accepted};
@@ -72,7 +74,7 @@ fn mismatched(number: u64, size: MismatchedSize) -> Told
 impl From<YuvError> for Told {
     ghost from_gives = { λ e t. t ≡ as_told (told e) };
 
-    // A number for each case, written out: document 01 numbers the questions, with gaps, and `told` says the same by cases.
+    // A number for each case, written out: documents 01 and 02 number the questions, with gaps, and `told` says the same by cases.
     fn from(e: YuvError) -> Told {
         match e {
             YuvError::UnknownSampling => refused(1),

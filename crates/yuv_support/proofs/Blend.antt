@@ -5,6 +5,7 @@ use mathlib.Core.Path.{◌≡◌}
 use mathlib.Core.Bool.{Bool, true, false, cond}
 use Prim.Native.Nat.{ℕ, ◌+◌, ◌-◌, ◌*◌, ◌/◌, ◌%◌, ◌≤◌, ◌<◌, min}
 use native.Mathlib.Omega.{arith}
+use borrow.Author.Tests.{lt-ltb, le-ltb}
 use lib.Dec.{T, eqb, ltb, ltb→lt}
 use Rattle.yuv_support.specs.declared.YuvChromaSubsampling.{YuvChromaSubsampling}
 use Rattle.yuv_support.specs.declared.YuvChromaSubsampling.TheVariants.{Yuv420, Yuv422}
@@ -14,7 +15,6 @@ use Rattle.yuv_support.specs.declared.Settings.{Settings}
 use Rattle.yuv_support.specs.Settings.{max_of}
 use Rattle.yuv_support.specs.Blend.{Frame, Chroma, chroma_blue, chroma_red, plane_of, stride_of, chroma_width, chroma_height, Rows, one, two, Place, left, right, tail, rows_of, pair_place, place_of, next_row, near_row, far_row, tail_of, sixteenths, chroma16, rounded}
 use Rattle.yuv_support.specs.Distance.{PlaneWithin, WithinDepth}
-use Rattle.yuv_support.proofs.Tests.{ltb_yes, ltb_no}
 
 -- ---- document 01's formulas
 
@@ -111,7 +111,7 @@ far_of_second height k = let e : (2 * k + 1) % 2 ≡ 1 = omega arith in rw e (om
 -- a row of a whole pair has two chroma rows
 pub pair_has_two : (height row : ℕ) → row / 2 < height / 2 → rows_of Yuv420 height row ≡ two
 unfolding rows_of
-pair_has_two height row h = rw (ltb_yes (row / 2) (height / 2) h)
+pair_has_two height row h = rw (lt-ltb (row / 2) (height / 2) h)
 
 -- of luma pair k with a chroma sample k + 1; the remaining pixels are the tail
 pub place_left : (width k : ℕ) → k + 1 < chroma_width width → place_of width (2 * k) ≡ left
@@ -119,18 +119,18 @@ unfolding place_of
 place_left width k h =
     let e : 2 * k % 2 ≡ 0 = omega arith in
     let i : 2 * k / 2 + 1 < chroma_width width = omega arith in
-    rw (ltb_yes (2 * k / 2 + 1) (chroma_width width) i, e)
+    rw (lt-ltb (2 * k / 2 + 1) (chroma_width width) i, e)
 
 pub place_right : (width k : ℕ) → k + 1 < chroma_width width → place_of width (2 * k + 1) ≡ right
 unfolding place_of
 place_right width k h =
     let e : (2 * k + 1) % 2 ≡ 1 = omega arith in
     let i : (2 * k + 1) / 2 + 1 < chroma_width width = omega arith in
-    rw (ltb_yes ((2 * k + 1) / 2 + 1) (chroma_width width) i, e)
+    rw (lt-ltb ((2 * k + 1) / 2 + 1) (chroma_width width) i, e)
 
 pub place_tail : (width column : ℕ) → chroma_width width ≤ column / 2 + 1 → place_of width column ≡ tail
 unfolding place_of
-place_tail width column h = rw (ltb_no (column / 2 + 1) (chroma_width width) h)
+place_tail width column h = rw (le-ltb (column / 2 + 1) (chroma_width width) h)
 
 -- ---- the near and the far row of a row below the height are chroma rows
 

@@ -3,7 +3,7 @@
 use mathlib.Core.Path.{◌≡◌, refl}
 use mathlib.Core.Bool.{Bool, true, false, cond}
 use Prim.Native.Nat.{ℕ, zero, suc, ◌+◌, ◌*◌, ◌≤◌, ◌<◌}
-use native.Mathlib.Nat.{add-zero, add-suc, mul-le-mul_left}
+use native.Mathlib.Nat.{add-zero, add-suc, mul-le-mul, mul-le-mul_left}
 use native.Mathlib.Numerals.{add-one}
 use native.Mathlib.Omega.{arith}
 use lib.Dec.{ltb}
@@ -107,8 +107,6 @@ module _ (s : Settings) (f : Frame) where
     total_most (λ r. (clipped_row s f (first + r)).above) (3 * f.width) n (λ r. (row_most (first + r)).1),
   )
 
--- three to each pixel of the largest picture
-pub sides_most : (w n : ℕ) → w ≤ 16384 → n ≤ 16384 → 3 * w * n ≤ 805306368
-sides_most w n hw hn =
-    let a : n * w ≤ n * 16384 = mul-le-mul_left n hw in
-    omega arith
+-- three to each pixel of a picture with sides of at most so many
+pub sides_most : (most w n : ℕ) → w ≤ most → n ≤ most → 3 * w * n ≤ 3 * most * most
+sides_most most w n hw hn = mul-le-mul (mul-le-mul_left 3 hw) hn

@@ -5,14 +5,10 @@ use mathlib.Core.Bool.{Bool, true, false, ◌||◌}
 use mathlib.Core.List.{List, [], ◌∷◌}
 use Prim.Native.Nat.{ℕ}
 use lib.Dec.{T, eqb, eqb→eq}
+use lib.Lanes.{Each1}
 use Rattle.yuv_support.specs.Settings.{among, depths}
 
--- P holds of each number of the list
-abbrev pub Each : (ℕ → Type 0) → List ℕ → Type 0
-Each P [] = Unit {0}
-Each P (y ∷ ys) = P y × Each P ys
-
-pub each_among : (P : ℕ → Type 0) (ys : List ℕ) → Each P ys → (x : ℕ) → T (among x ys) → P x
+pub each_among : (P : ℕ → Type 0) (ys : List ℕ) → Each1 P ys → (x : ℕ) → T (among x ys) → P x
 each_among P [] e x t = absurd t
 each_among P (y ∷ ys) e x t = go (eqb x y) (eqb→eq x y) (each_among P ys e.1 x) t
   where

@@ -8,6 +8,7 @@ use Prim.Native.Nat.{ℕ, ◌+◌, ◌-◌, ◌*◌, ◌≤◌, ◌<◌}
 use native.Mathlib.Nat.{mul-le-mul_left}
 use native.Mathlib.Omega.{arith}
 use lib.Dec.{T, ltb, ltb→lt}
+use mir.ValLaws.{and_both}
 use Rattle.yuv_support.specs.declared.YuvRange.{YuvRange}
 use Rattle.yuv_support.specs.declared.YuvRange.TheVariants.{Limited, Full}
 use Rattle.yuv_support.specs.declared.YuvStandardMatrix.{YuvStandardMatrix}
@@ -22,7 +23,7 @@ use Rattle.yuv_support.specs.Blend.{Frame, chroma_blue, chroma_red, luma_at, chr
 use Rattle.yuv_support.specs.Component.{Component, red, green, blue, clamp, sum_of, quotient, quotient_of, quotient_at, component_at}
 use Rattle.yuv_support.specs.Distance.{denominator, luma_step, outer_step, inner_step, exact_value, bound_num, bound_den, Close, measured_at, measured, WithinDepth}
 use Rattle.yuv_support.proofs.Depths.{by_depth}
-use Rattle.yuv_support.proofs.Tests.{passed, both, three, four}
+use Rattle.yuv_support.proofs.Tests.{passed, three, four}
 use Rattle.yuv_support.proofs.Sign.{clamp_is, sum_is, component_sum}
 use Rattle.yuv_support.proofs.Blend.{rounded_le, chroma_within}
 use Rattle.yuv_support.proofs.Coefficients.{measured_nearest}
@@ -134,8 +135,8 @@ at_depth : (f : ℕ → Bool) → T (every_depth f) → (d : ℕ) → T (among d
 at_depth f t = let u = three (f 8) (f 10) (f 12) t in by_depth (λ d. T (f d)) u.0 u.1 u.2
 
 at_range : (f : YuvRange → Bool) → T (every_range f) → (r : YuvRange) → T (f r)
-at_range f t Limited = (both (f Limited) (f Full) t).0
-at_range f t Full = (both (f Limited) (f Full) t).1
+at_range f t Limited = (and_both (f Limited) (f Full) t).0
+at_range f t Full = (and_both (f Limited) (f Full) t).1
 
 at_matrix : (f : YuvStandardMatrix → Bool) → T (every_matrix f) → (d : ℕ) (m : YuvStandardMatrix) (mode : YuvMode) → T (measured_at d m mode) → T (f m)
 unfolding measured_at
@@ -148,8 +149,8 @@ at_matrix f t d Fcc mode u = absurd u
 at_matrix f t d (Custom kr kb) mode u = absurd u
 
 at_mode : (f : YuvMode → Bool) → T (every_mode f) → (mode : YuvMode) → T (f mode)
-at_mode f t AsSource = (both (f AsSource) (f Matched) t).0
-at_mode f t Matched = (both (f AsSource) (f Matched) t).1
+at_mode f t AsSource = (and_both (f AsSource) (f Matched) t).0
+at_mode f t Matched = (and_both (f AsSource) (f Matched) t).1
 
 at_component : (f : Component → Bool) → T (every_component f) → (c : Component) → T (f c)
 at_component f t red = (three (f red) (f green) (f blue) t).0

@@ -4,24 +4,16 @@
 -- Assumes nothing.
 use mathlib.Core.Path.{◌≡◌, refl, sym, ap, ◌∙◌}
 use mathlib.Core.Logic.{◌⊎◌, inl, inr}
-use mathlib.Core.Bool.{Bool, true, false}
 use mathlib.Core.List.{List, [], ◌∷◌, ◌++◌, append_assoc}
 use Prim.Native.Nat.{ℕ, zero, suc, ◌+◌, ◌-◌, ◌≤◌, ◌<◌}
 use native.Mathlib.Nat.{not-suc-le-zero, le_of_suc-le-suc, add-zero, zero-add, suc-add, add-suc}
 use native.Mathlib.Omega.{arith}
-use borrow.Author.Tests.{lt-ltb, le-ltb, ltb-true, ltb-false}
+use borrow.Author.Tests.{lt-ltb, le-ltb}
 use borrow.Rule.Slice.PartMut.{put_mid}
-use lib.Dec.{ltb}
 use lib.ListN.{length, get_or, take, drop, length-append, length-drop, get_or-append}
 use lib.Seq.{ext_get_or, get_or-take, get_or-drop, get_or-append-add, length-take-le, drop-drop, sets, sets-eq}
+use Rattle.std.proofs.lemmas.Bool.{cases_lt}
 use Rattle.yuv_support.specs.Picture.{overlay, up_to}
-
-pub below_or_not : (a b : ℕ) → (a < b) ⊎ (b ≤ a)
-below_or_not a b = by_test (ltb a b) refl
-  where
-    by_test : (t : Bool) → ltb a b ≡ t → (a < b) ⊎ (b ≤ a)
-    by_test true e = inl (ltb-true a b e)
-    by_test false e = inr (ltb-false a b e)
 
 -- ---- length and elements
 
@@ -92,7 +84,7 @@ pub part_back : (g h : ℕ → ℕ → ℕ) (xs ys : List ℕ) (a k : ℕ) → a
     → ((j x : ℕ) → (j < a) ⊎ (a + k ≤ j) → g j x ≡ h j x) → ((i : ℕ) → i < k → get_or ys i 0 ≡ h (a + i) (get_or xs (a + i) 0))
     → put_mid a k (overlay g 0 xs) ys ≡ overlay h 0 xs
 part_back g h xs ys a k fits same out inside =
-    is_overlay h xs _ (part_length done ys a k fits' same ∙ l) (λ j b. at j b (below_or_not j a) (below_or_not j (a + k)))
+    is_overlay h xs _ (part_length done ys a k fits' same ∙ l) (λ j b. at j b (cases_lt j a) (cases_lt j (a + k)))
   where
     done : List ℕ
     done = overlay g 0 xs

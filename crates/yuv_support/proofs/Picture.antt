@@ -11,8 +11,9 @@ use native.Mathlib.Nat.{mul_comm, mul-le-mul_right, div-add-mod, mod-lt, div-lt_
 use native.Mathlib.Omega.{arith}
 use lib.Arith.{digits_lt, digits_div, digits_mod}
 use lib.Dec.{lit<, lit≤}
-use lib.ListN.{length, get_or, take, drop, length-map, length-drop}
-use lib.Seq.{ext_get_or, length-take-le, get_or-take, get_or-drop}
+use lib.ListN.{length, get_or, take, drop, length-map}
+use lib.Seq.{ext_get_or}
+use Rattle.std.proofs.lemmas.Bool.{cases_lt}
 use Rattle.yuv_support.specs.declared.YuvSourceChannels.{YuvSourceChannels}
 use Rattle.yuv_support.specs.declared.YuvSourceChannels.TheVariants.{Rgb, Rgba, Bgra, Bgr}
 use Rattle.yuv_support.specs.declared.Settings.{Settings}
@@ -21,8 +22,7 @@ use Rattle.yuv_support.specs.Component.{Component, red, green, blue, component_a
 use Rattle.yuv_support.specs.Picture.{colour, alpha, letters_of, channels_of, place_in, value_of, pixel_of, pixel_begin, pixel_in, OfNoPixel, element_of, band}
 use Rattle.yuv_support.specs.Questions.{needed}
 use Rattle.yuv_support.specs.Distance.{exact_value, Close, component_in, FaithfulBand}
-use Rattle.yuv_support.proofs.Overlay.{below_or_not}
-use Rattle.yuv_support.proofs.Rows.{Outside, cell_at, cell_kept, row_fits, painted_length, painted_none, painted_join}
+use Rattle.yuv_support.proofs.Rows.{Outside, cell_at, cell_kept, row_fits, part_length, part_at, painted_length, painted_none, painted_join}
 
 -- ---- letters and channels
 
@@ -140,7 +140,7 @@ module _ (s : Settings) (f : Frame) (stride first count : ℕ) (old : List ℕ) 
   pixel_in_lem row column lo hi hc long =
       ext_get_or 0 _ _ (same ∙ sym (pixel_length s f row column))
       (λ k b. let hk : k < n = omega (arith, same) in
-      get_or-take n (drop begin out) k 0 hk ∙ get_or-drop begin out k 0 ∙ letter_in row column k lo hi hc hk long
+      part_at begin n out k hk ∙ letter_in row column k lo hi hc hk long
       ∙ sym (pixel_at s f row column k hk))
     where
       n : ℕ
@@ -157,7 +157,7 @@ module _ (s : Settings) (f : Frame) (stride first count : ℕ) (old : List ℕ) 
           let l : length out ≡ length old = band_length s f stride first count old in
           let h : column + 1 ≤ f.width = omega arith in
           let m : n * (column + 1) ≤ f.width * n = rw (mul_comm n (column + 1)) (mul-le-mul_right n h) in
-          length-take-le n (drop begin out) (simp length-drop (omega arith))
+          part_length begin n out (omega arith)
 
 -- every component of the frame is close to the exact equation
 abbrev pub ComponentsClose : Settings → Frame → Type 0
@@ -181,7 +181,7 @@ pub band_kept : (s : Settings) (f : Frame) (stride first count : ℕ) (old : Lis
 unfolding band
 band_kept s f stride first count old j none =
     cell_kept (element_of s f) stride (f.width * n) first count j old
-    (outside (below_or_not (j / stride) first) (below_or_not (j / stride) (first + count)) (below_or_not x (f.width * n)))
+    (outside (cases_lt (j / stride) first) (cases_lt (j / stride) (first + count)) (cases_lt x (f.width * n)))
   where
     n : ℕ
     n = channels_of s.order

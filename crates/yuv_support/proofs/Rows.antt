@@ -13,9 +13,9 @@ use borrow.Author.Tests.{lt-ltb, le-ltb, le-leb, lt-leb}
 use borrow.Rule.Slice.PartMut.{put_mid}
 use lib.ListN.{length, get_or, take, drop, length-drop, get_or-eq_default}
 use lib.Seq.{length-take-le, get_or-take, get_or-drop}
+use Rattle.std.proofs.lemmas.Bool.{cases_lt}
 use Rattle.yuv_support.specs.Picture.{row_of, cell, painted}
-use Rattle.yuv_support.specs.Questions.{part_of}
-use Rattle.yuv_support.proofs.Overlay.{below_or_not, overlay_length, overlay_at, is_overlay, overlay_same, overlay_twice, part_back}
+use Rattle.yuv_support.proofs.Overlay.{overlay_length, overlay_at, is_overlay, overlay_same, overlay_twice, part_back}
 
 -- ---- the row and the place in the row of element s·r + x
 
@@ -47,7 +47,7 @@ cell_inside f s n first count r x old hs lo hi hx =
 -- the rows up to first + a are of the first band, and the others of the second
 cell_join : (f : ℕ → ℕ → ℕ) (s n first a b j old : ℕ)
     → cell f s n first (a + b) j old ≡ cell f s n (first + a) b j (cell f s n first a j old)
-cell_join f s n first a b j old = by_row (below_or_not (j / s) (first + a))
+cell_join f s n first a b j old = by_row (cases_lt (j / s) (first + a))
   where
     by_row : (j / s < first + a) ⊎ (first + a ≤ j / s) → cell f s n first (a + b) j old ≡ cell f s n (first + a) b j (cell f s n first a j old)
     by_row (inl lo) = rw (lt-leb (first + a) (j / s) lo, lt-ltb (j / s) (first + a) lo, lt-ltb (j / s) (first + (a + b)) (omega arith))
@@ -61,7 +61,7 @@ painted_length f s n first count xs = overlay_length (cell f s n first count) 0 
 pub painted_none : (f : ℕ → ℕ → ℕ) (s n first : ℕ) (xs : List ℕ) → xs ≡ painted f s n first 0 xs
 painted_none f s n first xs =
     is_overlay (cell f s n first 0) xs xs refl
-    (λ j b. sym (cell_outside f s n first 0 j (get_or xs j 0) (outside j (below_or_not (j / s) first))))
+    (λ j b. sym (cell_outside f s n first 0 j (get_or xs j 0) (outside j (cases_lt (j / s) first))))
   where
     outside : (j : ℕ) → (j / s < first) ⊎ (first ≤ j / s) → Outside s n first 0 j
     outside j (inl above) = inl above
@@ -81,20 +81,20 @@ row_fits s n height r len fits h =
     let m : s * r ≤ s * (height - 1) = mul-le-mul_left s (let l : r ≤ height - 1 = omega arith in l) in
     omega arith
 
--- a row as a part of a buffer: how long it is, and its element x
-pub part_length : (s r n : ℕ) (d : List ℕ) → s * r + n ≤ length d → length (part_of s r n d) ≡ n
-part_length s r n d h = length-take-le n (drop (s * r) d) (simp length-drop (omega arith))
+-- a part of a list, k elements from place a on, as a row is of a buffer: how long it is, and its element x
+pub part_length : {A : Type 0} (a k : ℕ) (xs : List A) → k ≤ length xs - a → length (take k (drop a xs)) ≡ k
+part_length a k xs h = length-take-le k (drop a xs) (rw length-drop h)
 
-pub part_at : (s r n : ℕ) (d : List ℕ) (x : ℕ) → x < n → get_or (part_of s r n d) x 0 ≡ get_or d (s * r + x) 0
-part_at s r n d x h = get_or-take n (drop (s * r) d) x 0 h ∙ get_or-drop (s * r) d x 0
+pub part_at : (a k : ℕ) (xs : List ℕ) (x : ℕ) → x < k → get_or (take k (drop a xs)) x 0 ≡ get_or xs (a + x) 0
+part_at a k xs x h = get_or-take k (drop a xs) x 0 h ∙ get_or-drop a xs x 0
 
 -- its length where it is lent from one place to another
 pub row_length : (s n r : ℕ) (d : List ℕ) → s * r + n ≤ length d → length (take (s * r + n - s * r) (drop (s * r) d)) ≡ n
-row_length s n r d h = rw (add-sub_cancel_left (s * r) n) (part_length s r n d h)
+row_length s n r d h = rw (add-sub_cancel_left (s * r) n) (part_length (s * r) n d (omega arith))
 
 -- an element before row r, or past its first n, is outside
 beside_row : (s n r j : ℕ) → (j < s * r) ⊎ (s * r + n ≤ j) → Outside s n r 1 j
-beside_row s n r j out = by_place (below_or_not (j % s) n) (below_or_not (j / s) r) (below_or_not r (j / s))
+beside_row s n r j out = by_place (cases_lt (j % s) n) (cases_lt (j / s) r) (cases_lt r (j / s))
   where
     row_r : j / s ≡ r → j ≡ s * r + j % s
     row_r e = sym (div-add-mod j s) ∙ rw e
@@ -139,7 +139,7 @@ cell_at f s n first count r x xs hs lo hi hx b =
 
 pub cell_kept : (f : ℕ → ℕ → ℕ) (s n first count j : ℕ) (xs : List ℕ) → Outside s n first count j
     → get_or (painted f s n first count xs) j 0 ≡ get_or xs j 0
-cell_kept f s n first count j xs out = by_length (below_or_not j (length xs))
+cell_kept f s n first count j xs out = by_length (cases_lt j (length xs))
   where
     l : length (painted f s n first count xs) ≡ length xs
     l = painted_length f s n first count xs

@@ -2,9 +2,8 @@
 -- Assumes nothing.
 use mathlib.Core.Path.{◌≡◌, refl}
 use mathlib.Core.Bool.{Bool, true, false, not, ◌&&◌, ◌||◌}
-use Prim.Native.Nat.{ℕ, ◌≤◌, ◌<◌}
-use lib.Arith.{le→nltb}
-use lib.Dec.{T, ltb, lt→ltb}
+use lib.Dec.{T}
+use mir.ValLaws.{and_both}
 
 pub passed : (t : Bool) → T t → t ≡ true
 passed true h = refl
@@ -14,21 +13,11 @@ pub failed : (t : Bool) → T (not t) → t ≡ false
 failed true h = absurd h
 failed false h = refl
 
-pub ltb_yes : (a b : ℕ) → a < b → ltb a b ≡ true
-ltb_yes a b h = passed (ltb a b) (lt→ltb a b h)
-
-pub ltb_no : (a b : ℕ) → b ≤ a → ltb a b ≡ false
-ltb_no a b h = failed (ltb a b) (le→nltb a b h)
-
-pub both : (a b : Bool) → T (a && b) → T a × T b
-both true b h = (tt, h)
-both false b h = absurd h
-
 pub three : (a b c : Bool) → T (a && (b && c)) → T a × T b × T c
-three a b c h = let u = both a (b && c) h in let v = both b c u.1 in (u.0, v.0, v.1)
+three a b c h = let u = and_both a (b && c) h in let v = and_both b c u.1 in (u.0, v.0, v.1)
 
 pub four : (a b c d : Bool) → T (a && (b && (c && d))) → T a × T b × T c × T d
-four a b c d h = let u = both a (b && (c && d)) h in let v = three b c d u.1 in (u.0, v.0, v.1, v.2)
+four a b c d h = let u = and_both a (b && (c && d)) h in let v = three b c d u.1 in (u.0, v.0, v.1, v.2)
 
 pub either : (a b : Bool) → T a → T (a || b)
 either true b h = h

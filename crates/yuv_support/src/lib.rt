@@ -1,6 +1,6 @@
 // The settings of a conversion as types: range, matrix, sampling, channel order, packing and mode, the two weights, the five coefficients.
-// Codes are decoded here, except that of a chroma plane, which is decoded in `images`. The definitions of a conversion stand in specs/, one module to a subject; those of the answers'
-// numbers, the settings used, the readers and the sheet in the specs of their own crates.
+// Codes are decoded here, except that of a chroma plane, which is decoded in `images`. The definitions of a conversion stand in specs/, one
+// module to a subject; those of the answers' numbers, the settings used, the readers and the sheet in the specs of their own crates.
 #![tactic(auto)]
 
 ghost use Rattle.std.specs.Prelude.{◌≡◌, ◌-◌, ◌^◌, ◌<◌, ◌≤◌, T};
@@ -47,7 +47,7 @@ pub enum YuvSourceChannels {
 }
 
 impl YuvSourceChannels {
-    // The number of letters in the order's name.
+    // The number of letters in the order's name. By a match: two orders share each number, which no derive says.
     #[tactic(auto, unfolding(crate::specs::Picture::letters_of, crate::specs::Picture::channels_of))]
     pub fn get_channels_count(self) -> usize
         ensures { result ≡ channels_of self }
@@ -154,8 +154,8 @@ pub struct Clipped {
     pub above: u32,
 }
 
-// ---- what a code stands for that the questions let through; any other has the last meaning, which is never used. These are
-// public functions that cannot fail, and stay beside `TryFrom`: what is public promises no less than it did.
+// ---- what a code stands for that the questions let through; any other has the last meaning. These are public functions
+// that cannot fail, and stay beside `TryFrom`: what is public promises no less than it did.
 
 pub fn sampling_of(code: u32) -> YuvChromaSubsampling
     ensures { result ≡ sampling_of code }
@@ -239,7 +239,7 @@ pub fn max_of(depth: u32) -> u16
     (1 << depth) - 1
 }
 
-// The biases and ranges at a depth.
+// The biases and ranges at a depth. Depth and range stay two parameters, as in `kernel`, whose head says why.
 #[tactic(auto, unfolding(crate::specs::Settings::max_of, crate::specs::Settings::bias_y, crate::specs::Settings::bias_c, crate::specs::Settings::range_y, crate::specs::Settings::range_c))]
 pub fn get_yuv_range(depth: u32, range: YuvRange) -> YuvChromaRange
     requires { T (among depth depths) }

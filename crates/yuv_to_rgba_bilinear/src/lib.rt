@@ -56,6 +56,7 @@ pub fn yuv_to_rgbx_band<S: Element>(
 
 // The whole picture: the band from row 0 with the height as limit. Questions 1 to 13 are asked; 19
 // holds of row 0.
+#[tactic(auto, using(crate::proofs::Lent::whole_told))]
 pub fn yuv_to_rgbx_bilinear<S: Element>(
     image: &YuvPlanarImage<'_, S>,
     codes: Codes,

@@ -7,4 +7,4 @@ pub to_nearest-requires : goal.to_nearest-requires
 to_nearest-requires c =
     let a = c.args in
     let r = c.requires in
-    (mul-pos (omega arith) r.3.0, inner_below a.kg a.range_uv r.2 (omega arith), inner_fits a.k a.kg a.max a.range_uv r.0 r.3.1)
+    (mul-pos (omega arith) a.uv.at_most_two.0, inner_below a.kg a.uv.range r.2 (omega arith), inner_fits a.k a.kg a.uv.max a.uv.range r.0 a.uv.at_most_two.1)

@@ -1,6 +1,5 @@
-use Rattle.std.proofs.Common.{arith}
-use Rattle.std.proofs.lemmas.List.{set-get_or, length-take-le}
-use Rattle.sheet_numbers.proofs.ManyNumbers.{reading_none, reading_one, reading_missed, reading_above, reading_done, taken_in}
+use Rattle.std.proofs.lemmas.List.{set-get_or}
+use Rattle.sheet_numbers.proofs.ManyNumbers.{reading_none, reading_one, reading_missed, reading_above, reading_done}
 use Rattle.sheet_numbers.proofs.read_lines.Goals as goal
 
 pub loop-i-init : goal.loop-i-init
@@ -9,19 +8,16 @@ loop-i-init c = reading_none c.requires.place
 pub returns-in_err-number : goal.returns-in_err-number
 returns-in_err-number c =
     rw (c.from_residual.ensures, set-get_or c.loop-i.slot-items c.loop-i.i 0)
-    (taken_in _ c.requires.room
-    (reading_missed c.loop-i.invariant (omega (arith, c.loop-i-test.true, length-take-le _ _ c.requires.room)) c.ending_of.ensures c.read_number.ensures c.in_err-number.was))
+    (reading_missed _ c.requires.room c.loop-i.invariant c.loop-i-test.true c.ending_of.ensures c.read_number.ensures c.in_err-number.was)
 
 pub returns-then-lines-number : goal.returns-then-lines-number
 returns-then-lines-number c =
     rw (set-get_or c.loop-i.slot-items c.loop-i.i 0)
-    (taken_in _ c.requires.room
-    (reading_above c.loop-i.invariant (omega (arith, c.loop-i-test.true, length-take-le _ _ c.requires.room)) c.ending_of.ensures c.read_number.ensures c.in_ok-number.was c.if-lines-number.true))
+    (reading_above _ c.requires.room c.loop-i.invariant c.loop-i-test.true c.ending_of.ensures c.read_number.ensures c.in_ok-number.was c.if-lines-number.true)
 
 pub loop-i-preserved : goal.loop-i-preserved
 loop-i-preserved c =
-    reading_one c.loop-i.invariant (omega (arith, c.loop-i-test.true, length-take-le _ _ c.requires.room)) c.ending_of.ensures c.read_number.ensures c.in_ok-number.was c.if-lines-number.false
-    (omega (arith, length-take-le _ _ c.requires.room))
+    reading_one _ c.requires.room c.loop-i.invariant c.loop-i-test.true c.ending_of.ensures c.read_number.ensures c.in_ok-number.was c.if-lines-number.false
 
 pub returns : goal.returns
-returns c = taken_in _ c.requires.room (reading_done c.loop-i.invariant (omega (arith, c.loop-i-test.false, length-take-le _ _ c.requires.room)))
+returns c = reading_done _ c.requires.room c.loop-i.invariant c.loop-i-test.false

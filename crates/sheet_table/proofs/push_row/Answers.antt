@@ -3,7 +3,7 @@ use Rattle.sheet_writing.proofs.Write.{appended_none, appended_one}
 use Rattle.sheet_table.proofs.push_row.Goals as goal
 
 pub loop-column-init : goal.loop-column-init
-loop-column-init g c = (appended_none _ c.args.out.now, omega arith)
+loop-column-init g c = (appended_none _ c.args.out.now.items, omega arith)
 
 pub loop-column-preserved : goal.loop-column-preserved
 loop-column-preserved g c =

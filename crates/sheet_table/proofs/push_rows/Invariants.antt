@@ -4,5 +4,5 @@ use Rattle.sheet_table.proofs.push_rows.Given as goal
 
 abbrev pub invariant-loop-row : goal.invariant-loop-row
 invariant-loop-row g l =
-    (l.out ≡ l.initial.out ++ shown_rows l.shape.order l.shape.width (g.S.Sample.numbers l.rgb) l.row)
-    × (length l.out ≤ length l.initial.out + 1920 * l.row)
+    (l.out.items ≡ l.initial.out.items ++ shown_rows l.shape.order l.shape.width (g.S.Sample.numbers l.rgb) l.row)
+    × (length l.out.items ≤ length l.initial.out.items + 1920 * l.row)

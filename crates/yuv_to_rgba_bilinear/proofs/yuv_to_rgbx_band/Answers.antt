@@ -33,35 +33,14 @@ returns g c =
       faithful = rw (converted.destination ∙ done.destination) done.faithful;
     }
 
-pub returns-in_err-s-clause-answer : goal.returns-in_err-s-clause-answer
-returns-in_err-s-clause-answer g c =
+pub returns-in_err-s : goal.returns-in_err-s
+returns-in_err-s g c =
     let a = c.args in
     let refused = band_refused g.met.S.Sample.numbers_are g.S.Depths.known a.codes a.image.now a.rgb_stride a.rgb.now a.first _ c.in_err-s.ensures.answer a.limit in
-    let e = refused.answer in
-    search rules
-
-pub returns-in_err-s-clause-rows : goal.returns-in_err-s-clause-rows
-returns-in_err-s-clause-rows g c =
-    let a = c.args in
-    let refused = band_refused g.met.S.Sample.numbers_are g.S.Depths.known a.codes a.image.now a.rgb_stride a.rgb.now a.first _ c.in_err-s.ensures.answer a.limit in
-    let e = refused.rows in
-    search rules
-
-pub returns-in_err-s-clause-counts : goal.returns-in_err-s-clause-counts
-returns-in_err-s-clause-counts g c =
-    let a = c.args in
-    let refused = band_refused g.met.S.Sample.numbers_are g.S.Depths.known a.codes a.image.now a.rgb_stride a.rgb.now a.first _ c.in_err-s.ensures.answer a.limit in
-    let e = refused.counts in
-    search rules
-
-pub returns-in_err-s-clause-destination : goal.returns-in_err-s-clause-destination
-returns-in_err-s-clause-destination g c =
-    let a = c.args in
-    let refused = band_refused g.met.S.Sample.numbers_are g.S.Depths.known a.codes a.image.now a.rgb_stride a.rgb.now a.first _ c.in_err-s.ensures.answer a.limit in
-    refused.destination
-
-pub returns-in_err-s-clause-faithful : goal.returns-in_err-s-clause-faithful
-returns-in_err-s-clause-faithful g c =
-    let a = c.args in
-    let refused = band_refused g.met.S.Sample.numbers_are g.S.Depths.known a.codes a.image.now a.rgb_stride a.rgb.now a.first _ c.in_err-s.ensures.answer a.limit in
-    refused.faithful g.S.Element.asked
+    record {
+      answer = search (rules, refused.answer);
+      rows = search (rules, refused.rows);
+      counts = search (rules, refused.counts);
+      destination = refused.destination;
+      faithful = refused.faithful g.S.Element.asked;
+    }

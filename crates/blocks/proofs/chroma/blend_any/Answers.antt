@@ -11,8 +11,8 @@ loop-j-init g c = (begun_none, refl)
 pub loop-j-preserved : goal.loop-j-preserved
 loop-j-preserved g c =
     let l = c.loop-j in
-    let near = g.S.Sample.numbers c.args.near.now in
-    let far = g.S.Sample.numbers c.args.far.now in
+    let near = g.S.Sample.numbers c.args.rows.now.near.now in
+    let far = g.S.Sample.numbers c.args.rows.now.far.now in
     let a = c.column16-a.ensures in
     let b = c.column16-b.ensures in
     let n0 = c.read.ensures.value in

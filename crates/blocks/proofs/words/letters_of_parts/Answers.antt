@@ -12,12 +12,11 @@ block-requires-clause-fits c =
     let e = c.requires.eights in
     block_fits a.eights f.fits f.places e (omega (arith, begun_length c.blend_tailed.ensures)) (omega (arith, begun_length c.blend_tailed-then-is_small.ensures)) (omega arith)
 
-pub block-requires-clause-quick : goal.block-requires-clause-quick
-block-requires-clause-quick c =
+pub block-requires-clause-kernel : goal.block-requires-clause-kernel
+block-requires-clause-kernel c =
     let a = c.args in
     let e = c.requires.eights in
-    let m = c.is_small.ensures c.if-is_small.true in
-    λ one. (
+    let m = c.is_small.ensures c.if-is_small.true in (
       rw c.lower.ensures (lowered_quick c.requires.kernel),
       small_parts c.requires.kernel a.pixels.letters a.eights a.source.now c.requires.parts_fit c.blend_tailed.ensures c.blend_tailed-then-is_small.ensures
           (omega (arith, e)) (omega (arith, e)) m.0 m.1 m.2,

@@ -5,8 +5,6 @@ use native.Mathlib.Omega.{arith}
 use Rattle.numerics.specs.Row.{clipped_over}
 use Rattle.numerics.proofs.Row.{begun_none}
 use Rattle.numerics.proofs.Clips.{clipped_none, clipped_on, most_of}
-use Rattle.blocks.specs.Parts.{after}
-use Rattle.blocks.specs.Source.{luma_of, chroma_of}
 use Rattle.interpolate.proofs.groups.groups.Goals as goal
 
 -- a group ends after at least 8 pairs
@@ -14,31 +12,18 @@ next_most : (from eights done : ℕ) → from ≤ done → done < from + 8 * eig
 next_most from eights done h h' l = omega arith
 
 pub loop-done-init : goal.loop-done-init
-loop-done-init g c =
-    let a = c.args in
-    let N = g.S.Sample.numbers in
-    let one = g.S.Sample.number in
-    let s = a.source.now in
-    (omega arith, λ h. refl, rw (mul-zero a.pixels.letters) begun_none, sym (clipped_none a.pixels.k (luma_of N one s) (chroma_of N one a.samples s.first) (chroma_of N one a.samples s.third)))
+loop-done-init g c = (omega arith, λ h. refl, rw (mul-zero c.args.pixels.letters) begun_none, sym (clipped_none _ _ _ _))
 
 pub both-clipped-requires : goal.both-clipped-requires
 both-clipped-requires g c =
-    let a = c.args in
-    let N = g.S.Sample.numbers in
-    let one = g.S.Sample.number in
-    let s = a.source.now in
     let l = c.loop-done in
     let e = c.next_span-span.ensures in
-    let b = most_of a.pixels.k (luma_of N one s) (chroma_of N one a.samples s.first) (chroma_of N one a.samples s.third) (2 * l.done) l.invariant.3 in
-    let x = most_of a.pixels.k (after l.done (luma_of N one s)) (after l.done (chroma_of N one a.samples s.first)) (after l.done (chroma_of N one a.samples s.third)) _ c.group-x.ensures.counts in
+    let b = most_of _ _ _ _ _ l.invariant.3 in
+    let x = most_of _ _ _ _ _ c.group-x.ensures.counts in
     (omega (arith, c.requires.most, l.invariant.0, e.inside, b.0, x.0), omega (arith, c.requires.most, l.invariant.0, e.inside, b.1, x.1))
 
 pub loop-done-preserved : goal.loop-done-preserved
 loop-done-preserved g c =
-    let a = c.args in
-    let N = g.S.Sample.numbers in
-    let one = g.S.Sample.number in
-    let s = a.source.now in
     let l = c.loop-done in
     let n = c.next_span-span.result in
     let e = c.next_span-span.ensures in
@@ -46,6 +31,6 @@ loop-done-preserved g c =
     let q : 2 * l.done + 2 * (n.from + 8 * n.eights - l.done) ≡ 2 * (n.from + 8 * n.eights) = omega (arith, e.on) in (
       e.inside,
       λ h. absurd (next_most n.from n.eights l.done e.back e.on h),
-      x.row (N a.row.now) l.invariant.2,
-      c.both-clipped.ensures ∙ rw (l.invariant.3, x.counts) (clipped_on a.pixels.k (luma_of N one s) (chroma_of N one a.samples s.first) (chroma_of N one a.samples s.third) (after l.done (luma_of N one s)) (after l.done (chroma_of N one a.samples s.first)) (after l.done (chroma_of N one a.samples s.third)) (2 * l.done) _ (λ c h. refl) (λ c h. refl) (λ c h. refl) ∙ ap (clipped_over a.pixels.k (luma_of N one s) (chroma_of N one a.samples s.first) (chroma_of N one a.samples s.third)) q),
+      x.row _ l.invariant.2,
+      c.both-clipped.ensures ∙ rw (l.invariant.3, x.counts) (clipped_on _ _ _ _ _ _ _ _ _ (λ c h. refl) (λ c h. refl) (λ c h. refl) ∙ ap (clipped_over _ _ _ _) q),
     )

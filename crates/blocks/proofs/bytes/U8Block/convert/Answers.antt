@@ -2,8 +2,9 @@ use mathlib.Core.Path.{refl, ◌∙◌}
 use Prim.Native.Nat.{ℕ, ◌-◌, ◌*◌, ◌≤◌}
 use native.Mathlib.Omega.{arith}
 use lib.ListN.{length}
+use Rattle.yuv_support.proofs.Rows.{part_length}
 use Rattle.numerics.specs.Row.{at}
-use Rattle.numerics.proofs.Row.{begun_filled, begun_length, part_long}
+use Rattle.numerics.proofs.Row.{begun_filled, begun_length}
 use Rattle.numerics.proofs.Clips.{pairs_few, pairs_counted}
 use Rattle.numerics.proofs.Choice.{some_letters}
 use Rattle.blocks.specs.Source.{word_chroma}
@@ -29,7 +30,7 @@ counted-requires c =
     let words = c.block.new.scratch.words in
     let fits : m ≤ length words = omega (arith, c.requires.eights) in
     let short : m - a.done ≤ 512 = omega (arith, c.requires.eights) in
-    (rw (part_long a.done m words fits) short, pairs_few a.pixels.k (at a.source.now.y.now) (at c.blend_tailed.new.d) (at c.blend_tailed-2.new.d) words a.done m fits c.block.ensures.counts)
+    (rw (part_length a.done (m - a.done) words (omega arith)) short, pairs_few a.pixels.k (at a.source.now.y.now) (at c.blend_tailed.new.d) (at c.blend_tailed-2.new.d) words a.done m fits c.block.ensures.counts)
 
 pub returns-clause-row : goal.returns-clause-row
 returns-clause-row c =

@@ -2,8 +2,8 @@ use mathlib.Core.Path.{◌≡◌, ap, ◌∙◌}
 use Prim.Native.Nat.{ℕ, ◌-◌, ◌*◌, ◌≤◌}
 use native.Mathlib.Omega.{arith}
 use lib.ListN.{length}
+use Rattle.yuv_support.proofs.Rows.{part_length}
 use Rattle.numerics.specs.Row.{at, clipped_over}
-use Rattle.numerics.proofs.Row.{part_long}
 use Rattle.numerics.proofs.Clips.{columns_few, columns_counted}
 use Rattle.blocks.specs.Parts.{after}
 use Rattle.blocks.specs.Source.{word_chroma}
@@ -16,7 +16,7 @@ counted-requires c =
     let words = c.letters_of_parts.new.scratch.words in
     let fits : m ≤ length words = omega (arith, c.requires.eights) in
     let short : m - 2 * a.done ≤ 512 = omega (arith, c.requires.eights) in
-    (rw (part_long (2 * a.done) m words fits) short, columns_few a.pixels.k (at a.source.now.y.now) (word_chroma a.source.now.first) (word_chroma a.source.now.third) words (2 * a.done) m fits c.letters_of_parts.ensures.counts)
+    (rw (part_length (2 * a.done) (m - 2 * a.done) words (omega arith)) short, columns_few a.pixels.k (at a.source.now.y.now) (word_chroma a.source.now.first) (word_chroma a.source.now.third) words (2 * a.done) m fits c.letters_of_parts.ensures.counts)
 
 pub returns-clause-counts : goal.returns-clause-counts
 returns-clause-counts c =
