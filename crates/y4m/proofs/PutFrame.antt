@@ -1,4 +1,4 @@
--- A frame is put plane after plane: each has room where the last ended (`y_asked`, `u_asked`, `v_asked`), since writing keeps the output's
+-- A frame is put plane after plane: U and V have room where the plane before ended (`u_room`, `v_room`), since writing keeps the output's
 -- length, and the parts written are the frame's text (`frame_put`). One law for samples of any width.
 -- Assumes nothing.
 use mathlib.Core.Path.{◌≡◌, refl, ap, ◌∙◌}
@@ -11,7 +11,6 @@ use Rattle.sample.specs.declared.plane.Size.{Size}
 use Rattle.yuv_support.specs.declared.Geometry.{Geometry}
 use Rattle.yuv_support.specs.declared.YuvChromaSubsampling.{YuvChromaSubsampling}
 use Rattle.yuv_support.specs.Blend.{chroma_width, chroma_height}
-use Rattle.yuv_support.specs.Questions.{needed}
 use Rattle.sheet_writing.specs.Text.{Wrote}
 use Rattle.sheet_writing.proofs.Write.{wrote_then}
 use Rattle.y4m_text.specs.Write.{frame_line}
@@ -52,27 +51,21 @@ module _ {e : ℕ} {sampling : YuvChromaSubsampling} {i : Geometry} {y u v out :
   line_wrote : Wrote out 0 frame_line lined 6
   line_wrote = record { place = refl; bytes = s.line }
 
-  pub y_asked : (i.width ≤ i.y_stride) × (needed i.y_stride i.width i.height ≤ length y)
-      × (6 + e * (i.width * i.height) ≤ length lined)
-  y_asked = (s.fits.y_stride, s.fits.y_length, omega (arith, s.fits.room, same_length line_wrote))
-
   module _ {with_y : List ℕ} {a : ℕ} (y_wrote : Wrote lined 6 (plane_bytes e i.y_stride i.width i.height y) with_y a) where
     y_end : a ≡ 6 + e * (i.width * i.height)
     y_end = y_wrote.place ∙ ap (λ (n : ℕ). 6 + n) (plane_bytes_length e i.y_stride i.width i.height y s.fits.y_length)
 
-    pub u_asked : (columns ≤ i.u_stride) × (needed i.u_stride columns rows ≤ length u) × (a + e * (columns * rows) ≤ length with_y)
-    u_asked =
-        rw (s.columns_are, s.rows_are)
-        (s.fits.u_stride, s.fits.u_length, omega (arith, s.fits.room, y_end, same_length line_wrote, same_length y_wrote))
+    pub u_room : a + e * (columns * rows) ≤ length with_y
+    u_room = rw (s.columns_are, s.rows_are) (omega (arith, s.fits.room, y_end, same_length line_wrote, same_length y_wrote))
 
     module _ {with_u : List ℕ} {b : ℕ} (u_wrote : Wrote with_y a (plane_bytes e i.u_stride columns rows u) with_u b) where
       u_end : b ≡ a + e * (columns * rows)
-      u_end = u_wrote.place ∙ ap (λ (n : ℕ). a + n) (plane_bytes_length e i.u_stride columns rows u u_asked.1)
+      u_end = u_wrote.place ∙ ap (λ (n : ℕ). a + n) (plane_bytes_length e i.u_stride columns rows u (rw (s.columns_are, s.rows_are) s.fits.u_length))
 
-      pub v_asked : (columns ≤ i.v_stride) × (needed i.v_stride columns rows ≤ length v) × (b + e * (columns * rows) ≤ length with_u)
-      v_asked =
+      pub v_room : b + e * (columns * rows) ≤ length with_u
+      v_room =
           rw (u_end, s.columns_are, s.rows_are)
-          (s.fits.v_stride, s.fits.v_length, omega (arith, s.fits.room, y_end, same_length line_wrote, same_length y_wrote, same_length u_wrote))
+          (omega (arith, s.fits.room, y_end, same_length line_wrote, same_length y_wrote, same_length u_wrote))
 
       pub frame_put : {new : List ℕ} {last : ℕ} → Wrote with_u b (plane_bytes e i.v_stride columns rows v) new last
           → (last ≡ frame_length e sampling i) × (new ≡ sets out 0 (frame_text e sampling i y u v))
