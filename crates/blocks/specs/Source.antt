@@ -10,7 +10,6 @@ use Rattle.numerics.specs.Row.{row_value, tailed_value, clipped_over, at, pair_c
 use Rattle.blocks.specs.declared.chroma.ChromaRows.{ChromaRows}
 use Rattle.blocks.specs.declared.chroma.Source.{Source}
 use Rattle.blocks.specs.declared.chroma.Pixels.{Pixels}
-use Rattle.blocks.specs.declared.chroma.Scratch.{Scratch}
 use Rattle.blocks.specs.Parts.{PartsFit, part_chroma, after, lettered}
 
 -- ---- what is asked, at n letters to the pixel
@@ -112,13 +111,6 @@ word_letters = part_letters (λ xs. xs) (λ x. x)
 
 abbrev pub word_counts : Kernel → Source ℕ → ℕ → ℕ
 word_counts k s c = word_at k (at s.y.now c) (word_chroma s.first c) (word_chroma s.third c)
-
--- letters and counts of a block, whose chroma is in the arrays of a scratch; its words of counts have room there
-abbrev pub arrays_fit : ℕ → ℕ → ℕ → List ℕ → List ℕ → Scratch ℕ → Type 0
-arrays_fit n columns counts row y s = BlockFits n columns counts row y s.p s.q s.words
-
-abbrev pub array_letters : Pixels → List ℕ → Scratch ℕ → List ℕ → List ℕ
-array_letters pixels y s row = lettered pixels.k pixels.letters y s.p s.q row
 
 -- no more samples than a group has; and all below 4,096, the tail's too
 abbrev pub few_chroma : ChromaRows ℕ → Type 0

@@ -5,7 +5,6 @@ ghost use Rattle.numerics.specs.Kernel.{letters_at, Bytes};
 ghost use Rattle.numerics.specs.Row.{Small, Filled, BlockFits};
 ghost use Rattle.blocks.specs.Kernels.{bytes_max};
 ghost use Rattle.blocks.specs.Parts.{lettered, pair_letters, pair_words};
-ghost use Rattle.blocks.specs.Source.{arrays_fit, array_letters};
 
 use crate::block::Block;
 use crate::chroma::{Pixels, Scratch, Source};
@@ -131,19 +130,26 @@ fn pairs<const LETTERS: usize>(
 }
 
 // The letters of eight pairs `eights` times, three or four to the pixel, and a word of counts for each pair.
-fn block(row: &mut [u8], y: &[u8], scratch: &mut Scratch<u8>, eights: usize, pixels: Pixels)
+pub fn block(
+    row: &mut [u8],
+    y: &[u8],
+    p: &[u8],
+    q: &[u8],
+    words: &mut [u16],
+    eights: usize,
+    pixels: Pixels,
+)
     requires kernel { Bytes pixels.k }
-    requires fits { arrays_fit pixels.letters (16 * eights) (8 * eights) row.old y.now scratch.old }
-    ensures row { row.new ≡ array_letters pixels y.now scratch.old row.old }
-    ensures counts { Filled (8 * eights) (pair_words pixels.k y.now scratch.old.p scratch.old.q) scratch.new.words }
+    requires fits { BlockFits pixels.letters (16 * eights) (8 * eights)
+        row.old y.now p.now q.now words.old }
+    ensures row { row.new ≡ lettered pixels.k pixels.letters y.now p.now q.now row.old }
+    ensures counts { Filled (8 * eights) (pair_words pixels.k y.now p.now q.now) words.new }
 {
     let k = pixels.k;
-    let p = &scratch.p;
-    let q = &scratch.q;
     if pixels.letters == 3 {
-        pairs::<3>(row, y, p, q, &mut scratch.words, eights, k);
+        pairs::<3>(row, y, p, q, words, eights, k);
     } else {
-        pairs::<4>(row, y, p, q, &mut scratch.words, eights, k);
+        pairs::<4>(row, y, p, q, words, eights, k);
     }
 }
 
@@ -180,7 +186,9 @@ impl Block for u8 {
         let n = 8 * eights;
         blend_tailed(&mut scratch.p, &mut scratch.sums, &first, n);
         blend_tailed(&mut scratch.q, &mut scratch.sums, &third, n);
-        block(row, source.y, scratch, eights, pixels);
+        let p = &scratch.p;
+        let q = &scratch.q;
+        block(row, source.y, p, q, &mut scratch.words, eights, pixels);
         numerics::counted(&scratch.words[done..n])
     }
 }

@@ -7,7 +7,7 @@ ghost use Rattle.numerics.specs.Kernel.{letters_at, Words};
 ghost use Rattle.numerics.specs.Row.{stored, word_at, Small, Filled, BlockFits};
 ghost use Rattle.blocks.specs.Kernels.{words_max};
 ghost use Rattle.blocks.specs.Parts.{lettered, pixel_words, small_columns, Chosen};
-ghost use Rattle.blocks.specs.Source.{words_fit, word_letters, word_counts, arrays_fit, array_letters, few_chroma, SmallChroma};
+ghost use Rattle.blocks.specs.Source.{words_fit, word_letters, word_counts, few_chroma, SmallChroma};
 
 use crate::block::Block;
 use crate::chroma::{ChromaRows, Pixels, Scratch, Source, any_tailed};
@@ -31,7 +31,7 @@ fn beyond(samples: &[u16]) -> u16
 }
 
 // True only if all samples of luma and of four rows of chroma, and the tails', are below 4,096.
-fn is_small(y: &[u16], first: &ChromaRows<'_, u16>, third: &ChromaRows<'_, u16>) -> bool
+pub fn is_small(y: &[u16], first: &ChromaRows<'_, u16>, third: &ChromaRows<'_, u16>) -> bool
     requires { (length y.now ≤ 512) × few_chroma first.now × few_chroma third.now }
     ensures { result ≡ true → Small (length y.now) y.now × SmallChroma first.now × SmallChroma third.now }
 {
@@ -100,25 +100,26 @@ fn put_all<const QUICK: bool, const LETTERS: usize>(
 }
 
 // The letters of eight pixels `eights` times, three or four to the pixel, and a word of counts for each.
-fn block<const QUICK: bool>(
+pub fn block<const QUICK: bool>(
     row: &mut [u16],
     y: &[u16],
-    scratch: &mut Scratch<u16>,
+    p: &[u16],
+    q: &[u16],
+    words: &mut [u16],
     eights: usize,
     pixels: Pixels,
 )
-    requires fits { arrays_fit pixels.letters (8 * eights) (8 * eights) row.old y.now scratch.old }
-    requires kernel { Chosen QUICK pixels.k (small_columns (8 * eights) y.now scratch.old.p scratch.old.q) }
-    ensures row { row.new ≡ array_letters pixels y.now scratch.old row.old }
-    ensures counts { Filled (8 * eights) (pixel_words pixels.k y.now scratch.old.p scratch.old.q) scratch.new.words }
+    requires fits { BlockFits pixels.letters (8 * eights) (8 * eights)
+        row.old y.now p.now q.now words.old }
+    requires kernel { Chosen QUICK pixels.k (small_columns (8 * eights) y.now p.now q.now) }
+    ensures row { row.new ≡ lettered pixels.k pixels.letters y.now p.now q.now row.old }
+    ensures counts { Filled (8 * eights) (pixel_words pixels.k y.now p.now q.now) words.new }
 {
     let k = pixels.k;
-    let p = &scratch.p;
-    let q = &scratch.q;
     if pixels.letters == 3 {
-        put_all::<QUICK, 3>(row, y, p, q, &mut scratch.words, eights, k);
+        put_all::<QUICK, 3>(row, y, p, q, words, eights, k);
     } else {
-        put_all::<QUICK, 4>(row, y, p, q, &mut scratch.words, eights, k);
+        put_all::<QUICK, 4>(row, y, p, q, words, eights, k);
     }
 }
 
@@ -152,11 +153,15 @@ fn letters_of_parts(
         };
         blend_tailed(&mut scratch.p, &mut scratch.sums, &first, n);
         blend_tailed(&mut scratch.q, &mut scratch.sums, &third, n);
-        block::<true>(row, source.y, scratch, 2 * eights, low);
+        let p = &scratch.p;
+        let q = &scratch.q;
+        block::<true>(row, source.y, p, q, &mut scratch.words, 2 * eights, low);
     } else {
         any_tailed(&mut scratch.p, &first, n, k.half);
         any_tailed(&mut scratch.q, &third, n, k.half);
-        block::<false>(row, source.y, scratch, 2 * eights, pixels);
+        let p = &scratch.p;
+        let q = &scratch.q;
+        block::<false>(row, source.y, p, q, &mut scratch.words, 2 * eights, pixels);
     }
 }
 

@@ -24,7 +24,7 @@ ghost use Rattle.convert.specs.Samples.{Arranged, samples_value, samples_clipped
 use blocks::block::Block;
 use blocks::chroma::{ChromaRows, Pixels, Scratch, Source};
 use images::YuvPlanarImage;
-use interpolate::whole::interpolate;
+use interpolate::whole::{interpolate, interpolate_alone};
 use numerics::Kernel;
 use sample::Sample;
 use yuv_support::{Clipped, Settings, YuvSourceChannels};
@@ -142,6 +142,41 @@ pub fn interpolate_row<S: Block>(
     }
 }
 
+// The same with its own room to work in; a narrow row needs none. The samples are arranged here
+// again, and not by a function that both call: this one is put into its callers whole, so that
+// narrow rows keep what describes them in registers.
+#[inline(always)]
+pub fn interpolate_row_alone<S: Block>(
+    row: &mut [S],
+    samples: &RowSamples<'_, S>,
+    width: usize,
+    s: Settings,
+    k: Kernel,
+) -> Clipped
+    requires kernel { S.kernel k }
+    requires fits { SamplesFit S.numbers s width row.old samples.now }
+    ensures row { S.numbers row.new
+        ≡ row_of (λ r. samples_value S.numbers k s width samples.now) 0 (S.numbers row.old) }
+    ensures counts { result ≡ samples_clipped S.numbers k s width samples.now }
+{
+    let RowSamples { y, u, v } = *samples;
+    let mode = s.mode;
+    let last = width.div_ceil(2) - 1;
+    let blue = ChromaRows {
+        near: u.near,
+        far: u.far,
+        tail: numerics::tail_at(u.near, u.far, last),
+    };
+    let red = ChromaRows {
+        near: v.near,
+        far: v.far,
+        tail: numerics::cr_tail_at(v.near, v.far, last, mode),
+    };
+    let source = arranged(s.order, y, blue, red);
+    let letters = s.order.get_channels_count();
+    interpolate_alone(row, &source, width, Pixels { k, letters })
+}
+
 // Rows of a picture: `count` of them, from row `first` on.
 #[derive(Clone, Copy)]
 pub struct Rows {
@@ -241,7 +276,11 @@ impl<'a, S: Convert> RowConverter<S> for LowRows<'a, S> {
         let v = NearAndFar { near: vn, far: vf };
         let samples = RowSamples { y, u, v };
         let width = image.width as usize;
-        interpolate_row(row, &samples, &mut self.scratch, width, self.s, self.k)
+        let s = self.s;
+        if width <= 16 {
+            return interpolate_row_alone(row, &samples, width, s, self.k);
+        }
+        interpolate_row(row, &samples, &mut self.scratch, width, s, self.k)
     }
 }
 

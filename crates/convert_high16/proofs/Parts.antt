@@ -33,6 +33,10 @@ kept e h = rw e h
 -- of the chroma rows p that the code finds
 module _ {s : Settings} {f : Frame} {k : Kernel} (ready : Ready s f k) (row : ℕ) {p : ChromaRows} (inside : row < f.height)
     (is : p ≡ chroma_rows s.sampling f.width f.height row) where
+  -- room by the width is room by the number of columns
+  pub by_room : {n : ℕ} → 2 * chroma_width f.width ≤ n → 2 * p.columns ≤ n
+  by_room h = rw (columns_are ready row inside is) h
+
   pub neighbours : p.near % 2 ≡ p.other % 2 → p.near ≡ p.other
   neighbours = rw is (near_other s.sampling f.height row inside)
 

@@ -6,6 +6,8 @@
 // are below those of `Buffers`, and would take it all the same if it were a field there; and one
 // size of array serves every width up to it.
 // `rgb`, `stride`, `image`, `s` and `rows` stay five parameters: the head of `convert` says why.
+// What finds and describes a row's samples is put into `convert_row` whole (`inline(always)`): narrow
+// rows are over before the calls have paid.
 #![tactic(auto)]
 
 ghost use Rattle.std.specs.Prelude.{◌≡◌, ℕ, ◌*◌, ◌/◌, ◌%◌, ◌^◌, ◌≤◌, ◌<◌, T, length, take, Some, None};
@@ -21,7 +23,10 @@ ghost use Rattle.convert_high16.specs.Held.{divided_by, place_of, ChromaHeld, he
 ghost use Rattle.convert_high16.specs.Lent.{y_of, u_of, v_of, RowIn, BothIn, Neighbours, row_in, UnpackedOf, HeldOf, BothHeldOf};
 
 use blocks::chroma::Scratch;
-use convert::{Convert, NearAndFar, RowConverter, RowSamples, Rows, convert_each, interpolate_row};
+use convert::{
+    Convert, NearAndFar, RowConverter, RowSamples, Rows, convert_each, interpolate_row,
+    interpolate_row_alone,
+};
 use images::{ChromaRows, YuvPlanarImage};
 use numerics::Kernel;
 use sample::plane::Plane;
@@ -80,6 +85,7 @@ impl<const COLUMNS: usize> HeldRow<COLUMNS> {
     }
 
     // Row c of a plane, unpacked unless it stands here.
+    #[inline(always)]
     fn hold(&mut self, plane: Plane<'_, u16>, c: u32, columns: u32, shift: u32)
         requires { (shift < 16) × (columns ≤ COLUMNS) × RowIn plane c columns }
         ensures held { UnpackedOf shift columns plane.entry self.old
@@ -105,6 +111,7 @@ impl<const COLUMNS: usize> HeldRows<COLUMNS> {
     }
 
     // Row c of a plane, in the place of its parity.
+    #[inline(always)]
     fn hold(&mut self, plane: Plane<'_, u16>, c: u32, columns: u32, shift: u32)
         requires { (shift < 16) × (columns ≤ COLUMNS) × RowIn plane c columns }
         ensures held { HeldOf shift columns plane.entry self.old
@@ -122,6 +129,7 @@ impl<const COLUMNS: usize> HeldRows<COLUMNS> {
     }
 
     // The two chroma rows of a luma row: they are neighbours or the same.
+    #[inline(always)]
     fn hold_both(&mut self, plane: Plane<'_, u16>, p: ChromaRows, shift: u32)
         requires fits { (shift < 16) × (p.columns ≤ COLUMNS) }
         requires rows_exist { BothIn plane p }
@@ -136,6 +144,7 @@ impl<const COLUMNS: usize> HeldRows<COLUMNS> {
     }
 
     // What stands in the place of row c.
+    #[inline(always)]
     fn row(&self, c: u32, columns: u32) -> &[u16]
         requires { columns ≤ COLUMNS }
         ensures samples { result.now ≡ take columns (place_of self.now c).samples }
@@ -149,6 +158,7 @@ impl<const COLUMNS: usize> HeldRows<COLUMNS> {
     }
 
     // The two chroma rows of a luma row, where they are held.
+    #[inline(always)]
     fn both(&self, p: ChromaRows) -> NearAndFar<'_, u16>
         requires { p.columns ≤ COLUMNS }
         ensures near { result.near.now ≡ held_row p.columns self.now p.near }
@@ -177,6 +187,7 @@ impl<const WIDTH: usize, const COLUMNS: usize> Buffers<WIDTH, COLUMNS> {
     }
 
     // The luma samples from the begin on.
+    #[inline(always)]
     fn luma_row(&self, width: u32) -> &[u16]
         requires { width ≤ WIDTH }
         ensures samples { result.now ≡ take width self.now.luma }
@@ -186,6 +197,7 @@ impl<const WIDTH: usize, const COLUMNS: usize> Buffers<WIDTH, COLUMNS> {
     }
 
     // Luma row r of a picture, unpacked.
+    #[inline(always)]
     fn unpack_luma(&mut self, image: &YuvPlanarImage<'_, u16>, r: u32, shift: u32)
         requires room { (shift < 16) × (image.now.width ≤ WIDTH) }
         requires row_exists { RowIn (y_of image.now) r image.now.width }
@@ -198,6 +210,7 @@ impl<const WIDTH: usize, const COLUMNS: usize> Buffers<WIDTH, COLUMNS> {
     }
 
     // The chroma rows p of a picture, each in its place.
+    #[inline(always)]
     fn hold_chroma(&mut self, image: &YuvPlanarImage<'_, u16>, p: ChromaRows, shift: u32)
         requires room { (shift < 16) × (p.columns ≤ COLUMNS) × Neighbours p }
         requires u_exists { BothIn (u_of image.now) p }
@@ -212,6 +225,7 @@ impl<const WIDTH: usize, const COLUMNS: usize> Buffers<WIDTH, COLUMNS> {
     }
 
     // The samples held of a luma row and of its chroma rows p.
+    #[inline(always)]
     fn samples(&self, p: ChromaRows, width: u32) -> RowSamples<'_, u16>
         requires { (width ≤ WIDTH) × (p.columns ≤ COLUMNS) }
         ensures y { result.y.now ≡ take width self.now.luma }
@@ -266,7 +280,11 @@ impl<'a, const WIDTH: usize, const COLUMNS: usize> RowConverter<u16>
         self.buffers.unpack_luma(image, r, shift);
         let samples = self.buffers.samples(p, image.width);
         let width = image.width as usize;
-        interpolate_row(row, &samples, &mut self.scratch, width, self.s, self.k)
+        let s = self.s;
+        if width <= 16 {
+            return interpolate_row_alone(row, &samples, width, s, self.k);
+        }
+        interpolate_row(row, &samples, &mut self.scratch, width, s, self.k)
     }
 }
 

@@ -1,11 +1,14 @@
--- What questions 3 and 4 say of the sides where they held.
+-- What the questions say of the numbers where they held: 3 and 4 of the sides, 2 of the depth.
 -- Assumes nothing.
 use mathlib.Core.Path.{◌≡◌, refl}
-use mathlib.Core.Bool.{true, ◌&&◌, and-eq-true_iff}
+use mathlib.Core.Bool.{Bool, true, ◌&&◌, and-eq-true_iff}
+use mathlib.Core.List.{[], ◌∷◌}
 use Prim.Native.Nat.{ℕ, ◌≤◌}
 use borrow.Author.Tests.{leb-true}
 use lib.Dec.{leb}
-use Rattle.yuv_support.specs.Questions.{verdict, sides}
+use Rattle.yuv_support.specs.declared.Codes.{Codes}
+use Rattle.yuv_support.specs.Settings.{last_packing}
+use Rattle.yuv_support.specs.Questions.{verdict, sides, codes_known}
 use Rattle.yuv_support.proofs.Questions.{each_holds}
 
 pub record Sides (width height : ℕ) : Type 0 where
@@ -31,3 +34,15 @@ pub sides_held : (width height : ℕ) → (verdict (sides width height)).number 
 sides_held width height e =
     let h = each_holds (sides width height) refl e in
     sides_are width height (h 0) (h 1)
+
+pub depth_held : (depth_known : Bool) (c : Codes) → (codes_known depth_known c).holds ≡ true → depth_known ≡ true
+depth_held depth_known c h =
+    let known = (and-eq-true_iff (leb c.order 3) _).0 h in
+    let known' = (and-eq-true_iff (leb c.range 1) _).0 known.1 in
+    let known'' = (and-eq-true_iff (leb c.matrix 6) _).0 known'.1 in
+    let known''' = (and-eq-true_iff (leb c.packing (last_packing c.depth)) _).0 known''.1 in
+    ((and-eq-true_iff (leb c.mode 1) depth_known).0 known'''.1).1
+
+-- the same where question 2 alone was asked
+pub depth_accepted : (depth_known : Bool) (c : Codes) → (verdict (codes_known depth_known c ∷ [])).number ≡ 0 → depth_known ≡ true
+depth_accepted depth_known c e = depth_held depth_known c (each_holds (codes_known depth_known c ∷ []) refl e 0)

@@ -2,7 +2,7 @@
 // Codes are numbers here, since questions 1 and 2 are asked of them. Codes, geometry, lengths and stride stay four parameters: C hands over
 // the codes and the stride, and a picture makes the geometry and the lengths (`YuvPlanarImage::check_conversion`). That the settings are
 // `decoded codes` is said of each result: a type that says it would have to hold the codes as well.
-ghost use Rattle.std.specs.Prelude.{◌≡◌, ◌≤◌, ◌<◌, ◌*◌, ◌∷◌, [], cond, leb, Ok, Err, IfOk, T};
+ghost use Rattle.std.specs.Prelude.{◌≡◌, ◌≤◌, ◌<◌, ◌*◌, ◌∷◌, [], true, cond, leb, Ok, Err, IfOk, T};
 ghost use Rattle.yuv_support.specs.Settings.{among, sampling_of, order_of, depths};
 ghost use Rattle.yuv_support.specs.Picture.{channels_of};
 ghost use Rattle.yuv_support.specs.Blend.{chroma_width, chroma_height};
@@ -40,16 +40,17 @@ pub fn check_sampling(code: u32) -> Result<YuvChromaSubsampling, YuvError>
     YuvChromaSubsampling::try_from(code).map_err(|_| YuvError::UnknownSampling)
 }
 
-// Question 2, and the settings in a sampling. Which depths are known goes by the element of the planes.
+// Question 2 where the depth is known or not, and the settings in a sampling.
 #[tactic(auto, unfolding(yuv_error::specs::Asked::asked))]
-fn settings_in<D: Depths>(
+fn settings_where(
     sampling: YuvChromaSubsampling,
     codes: Codes,
+    depth_known: bool,
 ) -> Result<Settings, YuvError>
     ensures answer { result
-        ≡ giving (asked (codes_known (among codes.depth D.known) codes ∷ []))
+        ≡ giving (asked (codes_known depth_known codes ∷ []))
         (record (decoded codes) { sampling = sampling }) }
-    ensures depth { IfOk result (λ s. T (among s.depth depths)) }
+    ensures depth { IfOk result (λ s. (s.depth ≡ codes.depth) × (depth_known ≡ true)) }
 {
     let order = YuvSourceChannels::try_from(codes.order)?;
     let range = YuvRange::try_from(codes.range)?;
@@ -63,7 +64,7 @@ fn settings_in<D: Depths>(
         depth: codes.depth,
     })?;
     let mode = YuvMode::try_from(codes.mode)?;
-    ask(D::is_known_depth(codes.depth), YuvError::UnknownCode)?;
+    ask(depth_known, YuvError::UnknownCode)?;
     Ok(Settings {
         depth: codes.depth,
         sampling,
@@ -75,13 +76,33 @@ fn settings_in<D: Depths>(
     })
 }
 
-// Question 2 alone.
+// The same where the element of the planes says which depths are known.
+fn settings_in<D: Depths>(
+    sampling: YuvChromaSubsampling,
+    codes: Codes,
+) -> Result<Settings, YuvError>
+    ensures answer { result
+        ≡ giving (asked (codes_known (among codes.depth D.known) codes ∷ []))
+        (record (decoded codes) { sampling = sampling }) }
+    ensures depth { IfOk result (λ s. T (among s.depth depths)) }
+{
+    settings_where(sampling, codes, D::is_known_depth(codes.depth))
+}
+
+// Question 2 alone, where the depth is known or not.
 #[tactic(auto, unfolding(yuv_error::specs::Asked::asked))]
+pub fn check_codes_where(codes: Codes, depth_known: bool) -> Result<(), YuvError>
+    ensures { result ≡ asked (codes_known depth_known codes ∷ []) }
+{
+    settings_where(YuvChromaSubsampling::Yuv420, codes, depth_known)?;
+    Ok(())
+}
+
+// Question 2 alone.
 pub fn check_codes<D: Depths>(codes: Codes) -> Result<(), YuvError>
     ensures { result ≡ asked (codes_known (among codes.depth D.known) codes ∷ []) }
 {
-    settings_in::<D>(YuvChromaSubsampling::Yuv420, codes)?;
-    Ok(())
+    check_codes_where(codes, D::is_known_depth(codes.depth))
 }
 
 // Questions 1 and 2, and the settings that the codes stand for.

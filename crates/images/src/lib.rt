@@ -12,8 +12,8 @@ pub mod picture;
 pub mod planes;
 
 pub use crate::calls::{
-    ChromaRow, check_band, check_chroma_row, check_codes, check_conversion, check_row,
-    check_sampling, check_settings, decode,
+    ChromaRow, check_band, check_chroma_row, check_codes, check_codes_where, check_conversion,
+    check_row, check_sampling, check_settings, decode,
 };
 pub use crate::picture::YuvPlanarImage;
 pub use crate::planes::{ChromaPlane, check_constraints};

@@ -11,6 +11,8 @@ use yuv_support::Clipped;
 
 // A row of fewer than 8 pairs before its tail. The arrays begin as the tail's chroma, and the pairs' is put over it.
 // Arrays, here and below, since the library uses no heap.
+// It and `interpolate_alone` are put into their callers whole: a narrow row is over before the calls have paid.
+#[inline(always)]
 fn narrow<S: Block>(row: &mut [S], source: &Source<'_, S>, width: usize, pixels: Pixels) -> Clipped
     requires kernel { S.kernel pixels.k }
     requires fits { row_fits S.numbers pixels.letters row.old source.now width }
@@ -55,4 +57,24 @@ pub fn interpolate<S: Block>(
     let before = groups(row, source, scratch, all, samples, pixels);
     let after = singles(&mut row[a..b], &source.y[from..width], &p, &q, pixels);
     numerics::both(before, after)
+}
+
+// The same with its own room to work in; a narrow row needs none.
+#[inline(always)]
+pub fn interpolate_alone<S: Block>(
+    row: &mut [S],
+    source: &Source<'_, S>,
+    width: usize,
+    pixels: Pixels,
+) -> Clipped
+    requires kernel { S.kernel pixels.k }
+    requires fits { row_fits S.numbers pixels.letters row.old source.now width }
+    ensures row { S.numbers row.new ≡ row_letters S.numbers S.number pixels width source.now row.old }
+    ensures counts { result ≡ row_clipped S.numbers S.number pixels.k width source.now }
+{
+    if width.div_ceil(2) <= 8 {
+        return narrow(row, source, width, pixels);
+    }
+    let mut scratch = Scratch::new();
+    interpolate(row, source, &mut scratch, width, pixels)
 }

@@ -1,11 +1,11 @@
 -- The coefficients of a setting from what the lookup found, and its question 13 from the matrix and the coefficients.
 -- Assumes nothing.
 use Rattle.std.specs.Prelude.{Option, Some, None, MatchOption}
-use mathlib.Core.Path.{◌≡◌}
+use mathlib.Core.Path.{◌≡◌, ap, ◌∙◌}
 use mathlib.Core.Bool.{Bool, true, false, cond}
 use Rattle.yuv_support.specs.declared.CbCrInverseTransform.{CbCrInverseTransform}
 use Rattle.yuv_support.specs.declared.Settings.{Settings}
-use Rattle.yuv_support.specs.Coefficients.{is_stored, stored_of, computed_of, coefficients_of}
+use Rattle.yuv_support.specs.Coefficients.{is_stored, stored_of, computed_of, coefficients_of, usable_with, usable}
 use Rattle.built_coefficients.specs.Built.{built_of}
 
 module _ (s : Settings) where
@@ -27,3 +27,8 @@ module _ (s : Settings) where
       by_test : (b : Bool) → MatchOption (cond b (Some stored) None) P (λ row. k ≡ row) → k ≡ cond b stored computed
       by_test true q = q
       by_test false q = made q
+
+  -- b being whether coefficients t that are the setting's are usable for its matrix
+  pub usable_from : (t : CbCrInverseTransform) (b : Bool) → t ≡ coefficients_of s → b ≡ usable_with s.matrix t → b ≡ usable s
+  unfolding usable
+  usable_from t b e u = u ∙ ap (usable_with s.matrix) e

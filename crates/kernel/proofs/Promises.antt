@@ -17,9 +17,16 @@ use Rattle.yuv_support.specs.Picture.{band, band_rows}
 use Rattle.yuv_support.specs.Counts.{clipped_in, unclipped}
 use Rattle.yuv_support.specs.Questions.{Verdict, decoded}
 use Rattle.yuv_support.specs.Distance.{WithinDepth}
-use Rattle.yuv_support.specs.Conversion.{answer_to_band, rows_after, clipped_after_band, destination_after_band, Demand3AfterBand}
-use Rattle.yuv_support.proofs.Conversion.{accepted_band, demand3_met}
+use Rattle.yuv_support.specs.Conversion.{answer_to, answer_to_band, rows_after, clipped_after_band, destination_after_band, Demand3AfterBand}
+use Rattle.yuv_support.proofs.Conversion.{FirstRow, accepted_band, demand3_met}
 use Rattle.yuv_support.proofs.Bands.{rowed, refused_keeps}
+
+-- an accepted band is one of an accepted picture, at a first row
+pub band_of_accepted : (known : List ℕ) (within : (d : ℕ) → T (among d known) → T (among d depths)) (codes : Codes) (image : Geometry)
+    (y u v : List ℕ) (stride : ℕ) (rgb : List ℕ) (first : ℕ) (a : Verdict) → a ≡ answer_to_band known codes image y u v stride rgb first
+    → eqb a.number 0 ≡ true → ((answer_to known codes image y u v stride rgb).number ≡ 0) × FirstRow first image.height
+band_of_accepted known within codes image y u v stride rgb first a e t =
+    accepted_band known within codes image y u v stride rgb first (rw e at (eqb-true a.number 0 t))
 
 -- `Asked` is what demand 3 asks of the samples, and `enough` that they then lie within the depth; `given` makes the answer that is handed
 -- out of the verdict, the counts, the rows written and the next first row

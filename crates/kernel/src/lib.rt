@@ -11,6 +11,17 @@ ghost use Rattle.kernel.specs.Kernels.{red_first, offset_of, lettered, arranged,
 use numerics::Kernel;
 use yuv_support::{CbCrInverseTransform, Settings, YuvRange, YuvSourceChannels};
 
+// Whether red is the first letter.
+#[tactic(auto, unfolding(crate::specs::Kernels::red_first))]
+pub fn is_red_first(order: YuvSourceChannels) -> bool
+    ensures { result ≡ red_first order }
+{
+    match order {
+        YuvSourceChannels::Rgb | YuvSourceChannels::Rgba => true,
+        YuvSourceChannels::Bgra | YuvSourceChannels::Bgr => false,
+    }
+}
+
 // How far a sum is kept above its value, over 8,192.
 #[tactic(auto, unfolding(crate::specs::Kernels::offset_of))]
 fn offset_of(depth: u32) -> u32
@@ -60,7 +71,6 @@ fn exchanged(t: CbCrInverseTransform) -> CbCrInverseTransform
 }
 
 // The kernel of coefficients t at a depth and a range, in the order's letters: red or blue first.
-#[tactic(auto, unfolding(crate::specs::Kernels::red_first))]
 pub fn kernel_of(
     depth: u32,
     range: YuvRange,
@@ -71,11 +81,10 @@ pub fn kernel_of(
     requires narrow { Narrow t }
     ensures { result ≡ arranged depth range (red_first order) t }
 {
-    match order {
-        YuvSourceChannels::Rgb | YuvSourceChannels::Rgba => lettered_kernel(depth, range, t),
-        YuvSourceChannels::Bgra | YuvSourceChannels::Bgr => {
-            lettered_kernel(depth, range, exchanged(t))
-        }
+    if is_red_first(order) {
+        lettered_kernel(depth, range, t)
+    } else {
+        lettered_kernel(depth, range, exchanged(t))
     }
 }
 

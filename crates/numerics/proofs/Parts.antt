@@ -4,12 +4,13 @@ use mathlib.Core.Path.{◌≡◌}
 use mathlib.Core.Logic.{◌⊎◌, inl, inr}
 use mathlib.Core.List.{List}
 use Prim.Native.Nat.{ℕ, ◌+◌, ◌-◌, ◌*◌, ◌/◌, ◌%◌, ◌≤◌, ◌<◌}
+use native.Mathlib.Nat.{mul-le-mul_left}
 use native.Mathlib.Omega.{arith}
 use borrow.Author.Tests.{lt-ltb, le-ltb}
 use lib.ListN.{length, set, take, drop}
 use Rattle.std.proofs.lemmas.Bool.{cases_lt}
 use Rattle.yuv_support.proofs.Rows.{part_length, part_at}
-use Rattle.numerics.specs.Row.{pair_chroma, tailed, Begun, Reach}
+use Rattle.numerics.specs.Row.{pair_chroma, tailed, Begun, GroupsFit, Reach}
 use Rattle.numerics.proofs.Row.{begun_as, begun_more}
 
 -- the elements from place a to place b
@@ -62,3 +63,28 @@ module _ (near far : List ℕ) (tail from m samples to : ℕ) (r : Reach (from +
           let l : (2 * from + c) / 2 + 1 < samples = omega arith in
           rw (lt-ltb (c / 2 + 1) (to - from) lo, lt-ltb ((2 * from + c) / 2 + 1) samples l) (chroma_part near far from to c lo)
       by_place (inr hi) = rw (le-ltb (c / 2 + 1) (to - from) hi, le-ltb ((2 * from + c) / 2 + 1) samples (past hi r.last))
+
+-- ---- lengths of the parts
+
+module _ (from m samples to : ℕ) (r : Reach (from + m) samples to) where
+  pub reach_most : 0 < m → (1 ≤ to - from) × (m ≤ to - from) × (to - from ≤ m + 1)
+  reach_most h = (omega arith, omega arith, omega arith)
+
+-- ---- the pairs of a row
+
+-- fewer pairs, and a row that is as long
+pub fits_less : {n m pairs samples : ℕ} {row₀ row y pn pf qn qf : List ℕ}
+    → GroupsFit n row₀ y pn pf qn qf pairs samples → m ≤ pairs → length row ≡ length row₀
+    → GroupsFit n row y pn pf qn qf m samples
+fits_less {n} {m} {pairs} f h l =
+    let p : n * (2 * m) ≤ n * (2 * pairs) = mul-le-mul_left n (omega arith) in
+    record {
+      letters = f.letters;
+      places = omega (arith, f.places);
+      luma = omega (arith, f.luma);
+      known = omega (arith, f.known);
+      first_near = f.first_near;
+      first_far = f.first_far;
+      third_near = f.third_near;
+      third_far = f.third_far;
+    }

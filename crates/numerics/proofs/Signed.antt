@@ -1,4 +1,4 @@
--- Numbers with a sign: those that fit and are read back from their bits, products, and the letter of a sum.
+-- Numbers with a sign: those that are not below 0, those that fit and are read back from their bits, products, and the letter of a sum.
 -- A number is shown to fit as a difference of natural numbers (`Is`), which `omega` reads.
 -- Assumes nothing.
 use mathlib.Core.Path.{◌≡◌, refl}
@@ -20,6 +20,16 @@ use Rattle.yuv_support.specs.Counts.{is_below, is_above}
 use Rattle.yuv_support.proofs.Sign.{Is, nat, plus, less, shift_is, step_is, mag_is, shifted_is, shifted_below, shifted_above}
 use Rattle.numerics.specs.Kernel.{letter_of_sum}
 use Rattle.numerics.specs.Signed.{min_z, cut, nat_of, signed_letter}
+
+-- ---- not below 0
+
+pub nat_below : (z : ℤ) → lt_z z (pos 0) ≡ true → nat_of z ≡ 0
+nat_below (pos n) t = let h : n < 0 = ltb-true n 0 t in omega arith
+nat_below (negsuc n) t = refl
+
+pub not_below : (z : ℤ) → lt_z z (pos 0) ≡ false → nat_abs z ≡ nat_of z
+not_below (pos n) t = refl
+not_below (negsuc n) t = let e : true ≡ false = t in cc
 
 -- ---- that fit
 
@@ -43,6 +53,10 @@ cut_neg n = go (ltb 32767 n) refl
     go : (t : Bool) → ltb 32767 n ≡ t → min_z (cond (ltb 32767 n) (negsuc 32767) (negsuc n)) (pos 32767) ≡ negsuc (min n 32767)
     go true e = let h : 32767 < n = ltb-true 32767 n e in let m : min n 32767 ≡ 32767 = omega arith in rw (e, m)
     go false e = let h : n ≤ 32767 = ltb-false 32767 n e in let m : min n 32767 ≡ n = omega arith in rw (e, m)
+
+pub cut_fits : (z : ℤ) → SFits w16 (cut z)
+cut_fits (pos n) = rw (cut_pos n) (record { sfits = omega arith })
+cut_fits (negsuc n) = rw (cut_neg n) (record { sfits = omega arith })
 
 pub wider : {z : ℤ} → SFits w16 z → SFits w32 z
 wider h = record { sfits = omega (arith, h.sfits) }
@@ -141,6 +155,13 @@ flag_is false = refl
 
 -- as the leaf makes it of a quotient
 module _ (max : ℕ) (m : max ≤ 4095) where
+  pub least_fits : (z : ℤ) → SFits w16 (min_z (cut z) (pos max))
+  least_fits z = go (lt_z (pos max) (cut z))
+    where
+      go : (t : Bool) → SFits w16 (cond t (pos max) (cut z))
+      go true = record { sfits = omega arith }
+      go false = cut_fits z
+
   pub leaf_value : (z : ℤ) → nat_of (min_z (cut z) (pos max)) ≡ clamp max z
   leaf_value (pos n) = rw (cut_pos n, min_pos (min n 32767) max) (omega arith)
   leaf_value (negsuc n) = rw (cut_neg n)

@@ -15,7 +15,7 @@ use Rattle.yuv_support.specs.Counts.{together}
 use Rattle.yuv_support.proofs.Overlay.{value_at}
 use Rattle.yuv_support.proofs.Rows.{part_length, part_at}
 use Rattle.numerics.specs.declared.Kernel.{Kernel}
-use Rattle.numerics.specs.Row.{row_value, at, tailed, row_chroma, whole_value, clipped_over, whole_clipped, Begun}
+use Rattle.numerics.specs.Row.{row_value, at, tailed, row_chroma, whole_value, clipped_over, whole_clipped, Begun, BlockFits, GroupsFit, RowFits}
 use Rattle.numerics.proofs.Row.{value_as, row_as, value_shifted, begun_part, begun_whole}
 use Rattle.numerics.proofs.Clips.{clipped_as, clipped_on}
 use Rattle.numerics.proofs.Choice.{some_letters}
@@ -29,6 +29,25 @@ module _ (width : ℕ) (near far : List ℕ) (tail c : ℕ) where
   pub chroma_tail : 2 * pairs_of width ≤ c → row_chroma width near far tail c ≡ tail
   unfolding tailed
   chroma_tail h = rw (le-ltb (c / 2 + 1) (chroma_width width) (omega arith))
+
+-- the pairs of a row are there
+pub groups_fit : {n width all : ℕ} {row y pn pf qn qf : List ℕ} → RowFits n row y pn pf qn qf width → 2 * all ≤ width
+    → GroupsFit n row y pn pf qn qf all (chroma_width width)
+groups_fit {n} {width} {all} f h =
+    let p : n * (2 * all) ≤ n * width = mul-le-mul_left n h in
+    record {
+      letters = f.letters;
+      places = omega (arith, f.places);
+      luma = omega (arith, f.luma);
+      known = omega arith;
+      first_near = f.first_near;
+      first_far = f.first_far;
+      third_near = f.third_near;
+      third_far = f.third_far;
+    }
+
+pub narrow_most : (width pairs : ℕ) → pairs ≡ pairs_of width → pairs < 8 → width ≤ 16
+narrow_most width pairs e h = omega arith
 
 pub two_at : (v c : ℕ) → c < 2 → at (v ∷ v ∷ []) c ≡ v
 two_at v c h = value_at (λ j. v) (v ∷ v ∷ []) (refl, (refl, tt)) c h
@@ -61,6 +80,23 @@ module _ (k : Kernel) (n : ℕ) (l : (n ≡ 3) ⊎ (n ≡ 4)) (width : ℕ) (y p
 
     pub last_length : width ≤ length y → length last_luma ≡ width - 2 * all
     last_length h = part_length (2 * all) (width - 2 * all) y (omega arith)
+
+    -- what they ask of the parts
+    pub last_fits : (row : List ℕ) → length row ≡ n * width → width ≤ length y
+        → BlockFits n (length last_luma) 0 (cut (n * (2 * all)) (n * width) row) last_luma (tp ∷ tp ∷ []) (tq ∷ tq ∷ []) []
+    last_fits row long h =
+        let t = last_length h in
+        record {
+          letters = l;
+          places = part_length (n * (2 * all)) (n * width - n * (2 * all)) row (omega arith) ∙ apart (2 * all) (width - 2 * all) (omega arith) ∙ rw t;
+          luma = omega arith;
+          first = omega (arith, last_most);
+          third = omega (arith, last_most);
+          room = omega arith;
+        }
+      where
+        apart : (a d : ℕ) → a + d ≡ width → n * width - n * a ≡ n * d
+        apart a d e = rw (← e) (omega arith)
 
     luma_last : (c : ℕ) → c < width - 2 * all → at last_luma c ≡ at y (2 * all + c)
     luma_last c h = part_at (2 * all) (width - 2 * all) y c h

@@ -14,36 +14,55 @@ mod call;
 mod replay;
 mod samples;
 
-use call::Call;
+use call::{Call, Columns};
 use std::alloc::Global;
 use std::io;
-use std::io::{BufRead, BufReader};
+use std::io::{ErrorKind, Read};
 
-// Whether a call's answer and the settings used are those of its line.
+// As many bytes of a list are read. A longer one is cut, and the count of answers shows it.
+const ROOM: u64 = 524288;
+
+// Whether a call's answer and the settings used are those of the list.
 fn is_answered(alloc: Global, call: &Call) -> io::Result<bool> {
-    let same = if call.codes.depth == 8 {
-        replay::is_same::<u8>(alloc, call)?
+    if !call.has_settings() {
+        return Ok(false);
+    }
+    if call.depth == 8 {
+        replay::is_same::<u8>(alloc, call)
     } else {
-        replay::is_same::<u16>(alloc, call)?
-    };
-    Ok(same && settings_used::settings_used(call.codes) == call.settings)
+        replay::is_same::<u16>(alloc, call)
+    }
 }
 
-// For each call of the list, whether it is answered as the list says. The first line has the names of the columns.
-fn replay_all<B: BufRead + Drop>(alloc: Global, list: B) -> io::Result<Vec<bool>> {
+// For each call of the list, whether it is answered as the list says. The names of the columns come first, which are as many as a call's
+// numbers and are no call.
+fn replay_all(alloc: Global, mut list: Columns<'_>) -> io::Result<Vec<bool>> {
     let mut answers = Vec::new(alloc);
-    for line in list.lines(alloc).skip(1) {
-        let line = line?;
-        let call = Call::parse(line.as_str())?;
+    let _names = Call::read(&mut list);
+    // A `for` over at most 2^64 - 1 calls and no `while`: no contract of `Call::read` says that the list gets shorter, so that a `while`
+    // ends.
+    for _ in 0..u64::MAX {
+        if list.is_empty() {
+            break;
+        }
+        let call = Call::read(&mut list);
         answers.push(is_answered(alloc, &call)?)?;
     }
     Ok(answers)
 }
 
+// What cannot be written is lost, and the status is 0 all the same.
 fn main(rt: HostRuntime) -> io::Result<()> {
-    let list = BufReader::with_capacity(rt.alloc(), 65536, rt.reader())?;
-    let answers = replay_all(rt.alloc(), list)?;
+    let mut list = Vec::new(rt.alloc());
+    // A read that fails ends the list, except where memory has run out.
+    if let Err(e) = rt.stdin().take(ROOM).read_to_end(&mut list) {
+        if e.kind() == ErrorKind::OutOfMemory {
+            return Err(e);
+        }
+    }
+    let answers = replay_all(rt.alloc(), Columns::new(&list))?;
     let compared = answers.len();
     let different = answers.iter().filter(|same| !**same).count();
-    println!(rt; "answers: {compared} compared whole and in bands, {different} different")
+    let _ = println!(rt; "answers: {compared} compared whole and in bands, {different} different");
+    Ok(())
 }

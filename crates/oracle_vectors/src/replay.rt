@@ -1,13 +1,13 @@
 // A call again, whole and in bands.
-use crate::call::Call;
+use crate::call::{Call, narrow};
 use crate::samples::{Levels, Sequence, sum};
 use elements::Element;
 use images::YuvPlanarImage;
 use sample::plane::{Plane, PlaneMut, Size};
 use std::alloc::Global;
 use std::io;
-use yuv_error::report::{band_report_of, report_of};
-use yuv_error::{Band, YuvError};
+use yuv_error::report::{band_report_with, report_of};
+use yuv_error::{Band, BandReport, Report, YuvError};
 use yuv_support::Clipped;
 use yuv_to_rgba_bilinear::{yuv_to_rgbx_band, yuv_to_rgbx_bilinear};
 
@@ -28,21 +28,62 @@ fn chroma_of(call: &Call) -> (Size, u32) {
     (chroma, chroma.width.wrapping_mul(2))
 }
 
-// What the bands of a call leave together, from row 0 on. There is at least one band more than is needed, at the height.
-fn in_bands<S: Element>(
+// The band of a call from row `first` on; the next first row is the one that the entry gives.
+fn band<S: Element>(
     call: &Call,
     image: &YuvPlanarImage<'_, S>,
     rgb: &mut [S],
-) -> Result<Band, YuvError> {
-    let mut rows = 0u32;
-    let mut clipped = Clipped { below: 0, above: 0 };
-    for _ in 0..call.image.height / 2 + 2 {
-        let band = yuv_to_rgbx_band(image, call.codes, rgb, call.rgb.stride, rows, call.limit())?;
-        rows = rows.wrapping_add(band.rows);
-        clipped.below = clipped.below.wrapping_add(band.clipped.below);
-        clipped.above = clipped.above.wrapping_add(band.clipped.above);
+    first: u32,
+) -> BandReport {
+    let stride = call.rgb.stride;
+    let answer = yuv_to_rgbx_band(image, call.codes, rgb, stride, first, call.limit());
+    let nothing = Band {
+        rows: 0,
+        clipped: Clipped { below: 0, above: 0 },
+        next: first,
+    };
+    band_report_with(answer.map(|_| ()), answer.unwrap_or(nothing))
+}
+
+// The answer of some bands and of the next one: counts and rows add up.
+fn together(all: BandReport, next: BandReport) -> BandReport {
+    BandReport {
+        below: all.below.wrapping_add(next.below),
+        above: all.above.wrapping_add(next.above),
+        rows: all.rows.wrapping_add(next.rows),
+        ..next
     }
-    Ok(Band { rows, clipped })
+}
+
+// What the bands of a call answer together, from row 0 on: each begins where the one before it says. There is a band more than is needed,
+// at the height.
+fn in_bands<S: Element>(call: &Call, image: &YuvPlanarImage<'_, S>, rgb: &mut [S]) -> BandReport {
+    let mut all = band(call, image, rgb, 0);
+    for _ in 0..call.image.height / 2 + 1 {
+        let next = band(call, image, rgb, narrow(all.next));
+        all = together(all, next);
+    }
+    all
+}
+
+// Whether all bands together have the call's answer, and reach the height where it is no refusal.
+fn is_band_answer(call: &Call, all: BandReport) -> bool {
+    let answer = Report {
+        number: all.number,
+        expected: all.expected,
+        received: all.received,
+        below: all.below,
+        above: all.above,
+    };
+    let reached = if all.number == 0 { call.height } else { 0 };
+    answer == call.report && all.rows == reached && all.next == reached
+}
+
+// Whether a band from row 1 on has number 19, or the call's where that is a refusal or 1 is the height.
+fn is_odd_answer(call: &Call, odd: BandReport) -> bool {
+    let refused = call.report.number != 0 || call.height == 1;
+    let number = if refused { call.report.number } else { 19 };
+    odd.number == number && odd.rows == 0 && odd.next == 1
 }
 
 impl<S: Element> Buffers<S> {
@@ -108,35 +149,17 @@ impl<S: Element> Buffers<S> {
         Ok(self.unweave_chroma(call, &uv).is_ok())
     }
 
-    // Whether the bands of a call together have its answer, and one from row 1 on has number 19, or the call's where that is a refusal or 1
-    // is the height.
+    // Whether the bands of a call together have its answer, and one from row 1 on is refused.
     fn are_bands_same(&mut self, call: &Call) -> bool {
         let image = YuvPlanarImage::with_planes(call.image, &self.y, &self.u, &self.v);
-        let odd = yuv_to_rgbx_band(
-            &image,
-            call.codes,
-            &mut self.rgb,
-            call.rgb.stride,
-            1,
-            call.limit(),
-        );
-        let odd = band_report_of(odd, 1);
-        let refused = call.report.number != 0 || call.image.height == 1;
-        let number = if refused { call.report.number } else { 19 };
-        let bands = in_bands(call, &image, &mut self.rgb);
-        let reached = bands.map_or(true, |all| all.rows == call.image.height);
-        let report = report_of(bands.map(|all| all.clipped));
-        odd.number == number
-            && odd.rows == 0
-            && odd.next == 1
-            && reached
-            && report == call.report
-            && sum(&self.rgb) == call.sum
+        let odd = band(call, &image, &mut self.rgb, 1);
+        let all = in_bands(call, &image, &mut self.rgb);
+        is_odd_answer(call, odd) && is_band_answer(call, all) && sum(&self.rgb) == call.sum
     }
 }
 
 // Whether a call has its answer, whole and in bands. The bands are converted from chroma that was woven and taken apart.
-pub fn is_same<S: Element>(alloc: Global, call: &Call) -> io::Result<bool> {
+pub(super) fn is_same<S: Element>(alloc: Global, call: &Call) -> io::Result<bool> {
     let mut buffers = Buffers::<S>::filled(alloc, call)?;
     let whole = buffers.is_whole_same(call);
     let mut buffers = Buffers::<S>::filled(alloc, call)?;

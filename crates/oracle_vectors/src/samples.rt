@@ -14,7 +14,7 @@ impl Sequence {
     }
 
     // Fills a buffer with the samples that follow.
-    pub fn fill<S: Sample>(&mut self, buffer: &mut [S], levels: Levels) {
+    pub(super) fn fill<S: Sample>(&mut self, buffer: &mut [S], levels: Levels) {
         for sample in buffer.iter_mut() {
             *sample = narrow(levels.level(self.next()));
         }
@@ -48,7 +48,7 @@ fn narrow<S: Sample>(number: u64) -> S {
 }
 
 // A polynomial of the elements modulo the largest prime below 2^32, so that a change of one element changes it.
-pub fn sum<S: Sample>(buffer: &[S]) -> u64 {
+pub(super) fn sum<S: Sample>(buffer: &[S]) -> u64 {
     buffer.iter().fold(0u64, |sum, sample| {
         (sum % 4294967291 * 2147483629 + u64::from(sample.to_u16()) + 1) % 4294967291
     })

@@ -1,11 +1,11 @@
 -- Document 01, "Two added readers": what each reader answers, the part that it hands back, of a buffer of any elements, and where that part
 -- lies in its buffer.
 -- Definitions only.
-use Rattle.std.specs.Prelude.{ℕ, ◌*◌, cond, List, [], eqb, length, take, drop}
+use Rattle.std.specs.Prelude.{ℕ, ◌*◌, cond, List, [], eqb, length}
 use Rattle.yuv_support.specs.Settings.{sampling_of, order_of}
 use Rattle.yuv_support.specs.Blend.{chroma_width, near_row}
 use Rattle.yuv_support.specs.Picture.{channels_of}
-use Rattle.yuv_support.specs.Questions.{Verdict, Extent, extent, verdict, row_questions, chroma_row_questions}
+use Rattle.yuv_support.specs.Questions.{Verdict, Extent, extent, verdict, row_questions, chroma_row_questions, finished_row, near_chroma_row}
 use Rattle.sample.specs.declared.plane.Plane.{Plane}
 use Rattle.row_readers.specs.declared.Part.{Part}
 
@@ -19,10 +19,6 @@ lent p = extent_of p.elements.now p.stride
 -- what comes back: the part, or nothing on a "no"
 abbrev pub handed : {X : Type 0} → Verdict → List X → List X
 handed v part = cond (eqb v.number 0) part []
-
--- n elements of a buffer from the begin of a row on
-abbrev pub row_at : {X : Type 0} → ℕ → ℕ → ℕ → List X → List X
-row_at stride row n buffer = take n (drop (stride * row) buffer)
 
 -- the same without the buffer: the verdict, then where the part starts and how long it is, both 0 on a "no"
 abbrev pub placed : Verdict → ℕ → ℕ → Part
@@ -41,7 +37,7 @@ row_answer order width height rgb row = verdict (row_questions order width heigh
 
 unfoldable pub row_part : {X : Type 0} → ℕ → ℕ → ℕ → List X → ℕ → ℕ → List X
 row_part order width height rgb stride row =
-    handed (row_answer order width height (extent_of rgb stride) row) (row_at stride row (width * channels_of (order_of order)) rgb)
+    handed (row_answer order width height (extent_of rgb stride) row) (finished_row order width stride row rgb)
 
 unfoldable pub row_place : ℕ → ℕ → ℕ → Extent → ℕ → Part
 row_place order width height rgb row =
@@ -59,7 +55,7 @@ chroma_row_answer sampling plane width height u v row = verdict (chroma_row_ques
 unfoldable pub chroma_row_part : {X : Type 0} → ℕ → ℕ → ℕ → ℕ → List X → ℕ → List X → ℕ → ℕ → List X
 chroma_row_part sampling plane width height u u_stride v v_stride row =
     handed (chroma_row_answer sampling plane width height (extent_of u u_stride) (extent_of v v_stride) row)
-    (row_at (wanted plane u_stride v_stride) (near_row (sampling_of sampling) height row) (chroma_width width) (wanted plane u v))
+    (near_chroma_row sampling width height (wanted plane u_stride v_stride) row (wanted plane u v))
 
 unfoldable pub chroma_row_place : ℕ → ℕ → ℕ → ℕ → Extent → Extent → ℕ → Part
 chroma_row_place sampling plane width height u v row =

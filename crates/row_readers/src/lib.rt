@@ -84,7 +84,7 @@ fn finished_place<T: Copy>(
 }
 
 // Row `row` of the destination, width·channels elements. Questions 2 of the order code, 3 to 6, and 14.
-#[tactic(auto, unfolding(crate::specs::Readers::row_part))]
+#[tactic(auto, unfolding(crate::specs::Readers::row_part, yuv_support::specs::Questions::finished_row))]
 pub fn finished_row<'a, T: Copy>(
     order: u32,
     size: Size,
@@ -101,7 +101,7 @@ pub fn finished_row<'a, T: Copy>(
 }
 
 // The same part, or an empty one on a "no".
-#[tactic(auto, using(yuv_error::proofs::Refused::refused_number), unfolding(crate::specs::Readers::row_part))]
+#[tactic(auto, using(yuv_error::proofs::Refused::refused_number), unfolding(crate::specs::Readers::row_part, yuv_support::specs::Questions::finished_row))]
 pub fn finished_row_or_empty<'a, T: Copy>(
     order: u32,
     size: Size,
@@ -167,7 +167,7 @@ fn near_chroma_place<'a, T: Copy>(
 
 // The near chroma row of luma row `row`, chroma width elements, from U for code 0 and from V for code 1. Questions 1, 2 of the code of the
 // plane, 3, 4, 9 to 12 of both planes, and 14.
-#[tactic(auto, unfolding(crate::specs::Readers::chroma_row_part))]
+#[tactic(auto, unfolding(crate::specs::Readers::chroma_row_part, yuv_support::specs::Questions::near_chroma_row))]
 pub fn near_chroma_row<'a, T: Copy>(
     sampling: u32,
     plane: u32,
@@ -187,7 +187,7 @@ pub fn near_chroma_row<'a, T: Copy>(
 }
 
 // The same part, or an empty one on a "no".
-#[tactic(auto, using(yuv_error::proofs::Refused::refused_number), unfolding(crate::specs::Readers::chroma_row_part))]
+#[tactic(auto, using(yuv_error::proofs::Refused::refused_number), unfolding(crate::specs::Readers::chroma_row_part, yuv_support::specs::Questions::near_chroma_row))]
 pub fn near_chroma_row_or_empty<'a, T: Copy>(
     sampling: u32,
     plane: u32,

@@ -26,14 +26,14 @@ fn print_setting(rt: &impl Print, depth: u32, range: u32, matrix: u32) -> io::Re
     )
 }
 
-fn main(rt: HostRuntime) -> io::Result<()> {
-    println!(rt; "depth range matrix number max bias_y bias_uv y cr cb g1 g2")?;
+// A line that cannot be written is lost, and the status is 0 all the same.
+fn main(rt: HostRuntime) {
+    let _ = println!(rt; "depth range matrix number max bias_y bias_uv y cr cb g1 g2");
     for depth in [8, 10, 12] {
         for range in 0..2 {
             for matrix in 0..6 {
-                print_setting(&rt, depth, range, matrix)?;
+                let _ = print_setting(&rt, depth, range, matrix);
             }
         }
     }
-    Ok(())
 }

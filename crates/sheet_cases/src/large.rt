@@ -73,7 +73,7 @@ fn put_plane(sheet: &mut Vec<u8>, size: Size, step: u32, most: u16) -> io::Resul
 }
 
 impl Large {
-    pub fn sheet(&self, alloc: Global) -> io::Result<Vec<u8>> {
+    pub(super) fn sheet(&self, alloc: Global) -> io::Result<Vec<u8>> {
         let mut sheet = named(alloc, self.values)?;
         put_plane(&mut sheet, self.luma, 37, self.most)?;
         put_plane(&mut sheet, self.chroma, 101, self.most)?;

@@ -79,10 +79,11 @@ fn show_long(rt: &HostRuntime, name: &str, values: &str) -> io::Result<()> {
     show(rt, name, &sheet)
 }
 
-fn main(rt: HostRuntime) -> io::Result<()> {
-    show_all(&rt, &CASES)?;
-    show_large(&rt)?;
-    show_over(&rt)?;
-    show_long(&rt, "65,537 bytes with sampling 2", "8 2 0 0 0 1 1\n")?;
-    show_long(&rt, "65,537 bytes with matrix 7", "8 0 0 0 7 1 1\n")
+// What cannot be written is lost, and the status is 0 all the same.
+fn main(rt: HostRuntime) {
+    let _ = show_all(&rt, &CASES);
+    let _ = show_large(&rt);
+    let _ = show_over(&rt);
+    let _ = show_long(&rt, "65,537 bytes with sampling 2", "8 2 0 0 0 1 1\n");
+    let _ = show_long(&rt, "65,537 bytes with matrix 7", "8 0 0 0 7 1 1\n");
 }

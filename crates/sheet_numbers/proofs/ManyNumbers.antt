@@ -129,17 +129,16 @@ reading_none {s} {at} {width} {limit} h = record {
   wrote = refl;
 }
 
--- into the first n elements of a room
-module _ {s : List ℕ} {at width limit n : ℕ} (old : List ℕ) (room : n ≤ length old) where
+-- into any numbers
+module _ {s : List ℕ} {at width limit n : ℕ} {numbers₀ : List ℕ} where
   -- the next number, of which `result` is what reading it answers
   module _ {numbers : List ℕ} {place i end : ℕ} {result : Option Number}
-      (r : Reading s at width limit n (take n old) numbers place i) (h : i < length (take n old))
+      (r : Reading s at width limit n numbers₀ numbers place i) (h : i < n)
       (ends : end ≡ ending width i) (answer : result ≡ number_read s place end) where
-    pub reading_one : {number : Number} → result ≡ Some number → number.value ≤ limit
-        → Reading s at width limit n (take n old) (set numbers i number.value) number.next (i + 1)
+    pub reading_one_any : {number : Number} → result ≡ Some number → number.value ≤ limit → n ≤ length numbers₀
+        → Reading s at width limit n numbers₀ (set numbers i number.value) number.next (i + 1)
     unfolding begin is_item
-    reading_one {number} e small =
-        let numbers₀ = take n old in
+    reading_one_any {number} e small room =
         let value = number.value in
         let found_number = some_met (is_number s place end) _ number (sym answer ∙ e) in
         let v₁ : number.value ≡ number_at s place = ap (λ (m : Number). m.value) found_number.1 in
@@ -149,7 +148,7 @@ module _ {s : List ℕ} {at width limit n : ℕ} (old : List ℕ) (room : n ≤ 
         let v : number_at s (begin s at i) ≡ value = ap (number_at s) p ∙ sym v₁ in
         let item : is_item s at width limit i ≡ true = rw (p, ← ends, found_number.0, ← v₁, le-leb value limit small) in
         record {
-          most = omega (arith, length-take-le n old room);
+          most = omega arith;
           kept = length-set numbers i value ∙ r.kept;
           formed = all_one (is_item s at width limit) i r.formed item;
           begins = rw (e₁, p) n₁;
@@ -162,31 +161,55 @@ module _ {s : List ℕ} {at width limit n : ℕ} (old : List ℕ) (room : n ≤ 
         }
 
     -- the answer where it is not well formed: it is missed, or above the limit
-    refused : is_item s at width limit i ≡ false → LinesTaken s at width limit n old (numbers ++ drop n old) None
+    refused : is_item s at width limit i ≡ false → LinesTaken s at width limit n numbers₀ numbers None
     refused item =
-        let t : i < n = omega (arith, length-take-le n old room) in
-        let f = holding_first (is_item s at width limit) n t r.formed item in
-        taken_in old room (record { answer = rw (not_all (is_item s at width limit) n t item); numbers = rw f r.wrote })
+        let f = holding_first (is_item s at width limit) n h r.formed item in
+        record { answer = rw (not_all (is_item s at width limit) n h item); numbers = rw f r.wrote }
 
-    pub reading_missed : result ≡ None → LinesTaken s at width limit n old (numbers ++ drop n old) None
+    pub reading_missed_any : result ≡ None → LinesTaken s at width limit n numbers₀ numbers None
     unfolding is_item
-    reading_missed e =
+    reading_missed_any e =
         let p : begin s at i ≡ place = sym r.begins in
         let m = none_unmet (is_number s place end) _ (sym answer ∙ e) in
         refused (rw (p, ← ends, m))
 
-    pub reading_above : {number : Number} → result ≡ Some number → limit < number.value
-        → LinesTaken s at width limit n old (numbers ++ drop n old) None
+    pub reading_above_any : {number : Number} → result ≡ Some number → limit < number.value
+        → LinesTaken s at width limit n numbers₀ numbers None
     unfolding is_item
-    reading_above {number} e large =
+    reading_above_any {number} e large =
         let p : begin s at i ≡ place = sym r.begins in
         let f = some_met (is_number s place end) _ number (sym answer ∙ e) in
         let v : number_at s place ≡ number.value = sym (ap (λ (m : Number). m.value) f.1) in
         refused (rw (p, ← ends, f.0, v, lt-leb number.value limit large))
 
+  pub reading_done_any : {numbers : List ℕ} {place i : ℕ} → Reading s at width limit n numbers₀ numbers place i → n ≤ i
+      → LinesTaken s at width limit n numbers₀ numbers (Some place)
+  reading_done_any {numbers} {place} {i} r h =
+      let e : n ≡ i = omega (arith, r.most) in
+      let all : holding (is_item s at width limit) n ≡ i = rw e (holding_all (is_item s at width limit) i r.formed) in
+      record { answer = rw (e, r.formed, r.begins); numbers = rw all r.wrote }
+
+-- into the first n elements of a room
+module _ {s : List ℕ} {at width limit n : ℕ} (old : List ℕ) (room : n ≤ length old) where
+  -- the next number, of which `result` is what reading it answers
+  module _ {numbers : List ℕ} {place i end : ℕ} {result : Option Number}
+      (r : Reading s at width limit n (take n old) numbers place i) (h : i < length (take n old))
+      (ends : end ≡ ending width i) (answer : result ≡ number_read s place end) where
+    below : i < n
+    below = omega (arith, length-take-le n old room)
+
+    pub reading_one : {number : Number} → result ≡ Some number → number.value ≤ limit
+        → Reading s at width limit n (take n old) (set numbers i number.value) number.next (i + 1)
+    reading_one e small = reading_one_any r below ends answer e small (omega (arith, length-take-le n old room))
+
+    -- the answer where it is not well formed: it is missed, or above the limit
+    pub reading_missed : result ≡ None → LinesTaken s at width limit n old (numbers ++ drop n old) None
+    reading_missed e = taken_in old room (reading_missed_any r below ends answer e)
+
+    pub reading_above : {number : Number} → result ≡ Some number → limit < number.value
+        → LinesTaken s at width limit n old (numbers ++ drop n old) None
+    reading_above e large = taken_in old room (reading_above_any r below ends answer e large)
+
   pub reading_done : {numbers : List ℕ} {place i : ℕ} → Reading s at width limit n (take n old) numbers place i → length (take n old) ≤ i
       → LinesTaken s at width limit n old (numbers ++ drop n old) (Some place)
-  reading_done {numbers} {place} {i} r h =
-      let e : n ≡ i = omega (arith, r.most, length-take-le n old room) in
-      let all : holding (is_item s at width limit) n ≡ i = rw e (holding_all (is_item s at width limit) i r.formed) in
-      taken_in old room (record { answer = rw (e, r.formed, r.begins); numbers = rw all r.wrote })
+  reading_done r h = taken_in old room (reading_done_any r (omega (arith, length-take-le n old room)))

@@ -1,11 +1,11 @@
 -- Laws of one number: a turn of the loop over its digits, and the place after a number that is well formed.
 -- Assumes nothing.
 use mathlib.Core.Path.{◌≡◌, refl, sym, ◌∙◌}
-use mathlib.Core.Bool.{true, false, and-eq-true_iff, and-false}
+use mathlib.Core.Bool.{Bool, true, false, cond, and-eq-true_iff, and-false}
 use mathlib.Core.List.{List}
 use mathlib.Core.Logic.{◌⊎◌, inl, inr}
-use Prim.Native.Nat.{ℕ, suc, ◌+◌, ◌-◌, ◌*◌, ◌^◌, ◌≤◌, ◌<◌}
-use native.Mathlib.Nat.{pow-suc}
+use Prim.Native.Nat.{ℕ, zero, suc, ◌+◌, ◌-◌, ◌*◌, ◌^◌, ◌≤◌, ◌<◌}
+use native.Mathlib.Nat.{pow-suc, pow-le-pow_right}
 use native.Mathlib.Omega.{arith}
 use borrow.Author.Tests.{leb-true, eqb-true, le-leb, lt-leb, eq-eqb, ne_eqb}
 use lib.Dec.{leb, lit<}
@@ -27,6 +27,12 @@ pub digit_bounds : (byte : ℕ) → is_digit byte ≡ true → (48 ≤ byte) × 
 digit_bounds byte e =
     let p = (and-eq-true_iff (leb 48 byte) (leb byte 57)).0 e in
     (leb-true 48 byte p.0, leb-true byte 57 p.1)
+
+-- five digits are below 100,000
+pub small_bound : {s : List ℕ} {at value count place : ℕ} → Passed s at value count place → value < 100000
+small_bound {s} {at} {value} {count} {place} p =
+    let m : 10 ^ count ≤ 10 ^ 5 = pow-le-pow_right (let l : 0 < 10 = lit< tt in l) p.most in
+    omega (arith, p.small)
 
 pub passed_none : {s : List ℕ} {at : ℕ} → Passed s at 0 0 at
 unfolding decimal
@@ -77,6 +83,19 @@ pub passed_five : {s : List ℕ} {at value count place : ℕ} → Passed s at va
     → (count ≡ digits_at s at) × (value ≡ number_at s at)
 unfolding digits_within
 passed_five {s} {at} {value} {count} {place} p h = let k : 5 - count ≡ 0 = omega (arith, p.here) in passed_end p (rw k)
+
+-- a number's digits are at most five
+one_or_none : (t : Bool) (n most : ℕ) → n ≤ most → cond t (1 + n) 0 ≤ suc most
+one_or_none true n most h = omega arith
+one_or_none false n most h = omega arith
+
+within_most : (s : List ℕ) (most at : ℕ) → digits_within most s at ≤ most
+unfolding digits_within
+within_most s zero at = omega arith
+within_most s (suc most) at = one_or_none (is_digit (byte_at s at)) (digits_within most s (at + 1)) most (within_most s most (at + 1))
+
+pub digits_most : (s : List ℕ) (at : ℕ) {count : ℕ} → count ≡ digits_at s at → count ≤ 5
+digits_most s at e = rw e (within_most s 5 at)
 
 -- a byte that is not 0 stands inside the list
 pub inside : (s : List ℕ) (i : ℕ) → 0 < byte_at s i → i < length s

@@ -128,16 +128,18 @@ module _ {known : List ℕ} {limit : ℕ} {v : Values} {y u w : List ℕ} (fit :
       (ec : codes ≡ codes_of v) (ei : image ≡ image_of v) (eo : order ≡ order_of v.order) (es : stride ≡ v.width * channels_of order)
       (en : n ≡ luma_count v) (em : m ≡ chroma_count v) (ey : Y ≡ take n y) (eu : U ≡ take m u) (ew : W ≡ take m w)
       (lo : length old ≡ 16384) where
-    -- the table of the destination and of the counts
-    pub picture_written : {new : List ℕ} {clipped : Clipped} → new ≡ destination_after known codes image Y U W stride old
-        → clipped ≡ clipped_after known codes image Y U W stride old
-        → heading ++ shown_rows order v.width new v.height ++ clipped_text clipped ≡ table (decoded (codes_of v)) (planes_frame v y u w)
-    picture_written {new} {clipped} d k =
-        let s = decoded (codes_of v) in
-        let f = planes_frame v y u w in
-        let close = stride_of (order_of v.order) v.width in
-        let shows : Shows s f new =
-        small_shows fit _ _ _ old ly lu lw lo new (d ∙ rw (ec, ei, es, eo, ey, eu, ew, en, em) refl) in
-        let counts : clipped ≡ clipped_in s f 0 v.height =
-        k ∙ rw (ec, ei, es, eo, ey, eu, ew, en, em) (small_clipped fit _ _ _ old ly lu lw lo) in
-        rw eo (shown_table s f new shows counts)
+    pub planes_shown : {new : List ℕ} → new ≡ destination_after known codes image Y U W stride old
+        → Shows (decoded (codes_of v)) (planes_frame v y u w) new
+    planes_shown {new} d =
+        small_shows fit _ _ _ old ly lu lw lo new (d ∙ rw (ec, ei, es, eo, ey, eu, ew, en, em) refl)
+
+    pub planes_clipped : {clipped : Clipped} → clipped ≡ clipped_after known codes image Y U W stride old
+        → clipped ≡ clipped_in (decoded (codes_of v)) (planes_frame v y u w) 0 v.height
+    planes_clipped {clipped} k =
+        k ∙ rw (ec, ei, es, eo, ey, eu, ew, en, em) (small_clipped fit _ _ _ old ly lu lw lo)
+
+-- the table of a picture that is shown and of what was clipped in it, whose order is known by its equation
+pub picture_written : (v : Values) (y u w rgb : List ℕ) {order : YuvSourceChannels} {clipped : Clipped} → order ≡ order_of v.order
+    → Shows (decoded (codes_of v)) (planes_frame v y u w) rgb → clipped ≡ clipped_in (decoded (codes_of v)) (planes_frame v y u w) 0 v.height
+    → heading ++ shown_rows order v.width rgb v.height ++ clipped_text clipped ≡ table (decoded (codes_of v)) (planes_frame v y u w)
+picture_written v y u w rgb eo shows counts = rw eo (shown_table (decoded (codes_of v)) (planes_frame v y u w) rgb shows counts)

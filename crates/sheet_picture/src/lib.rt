@@ -1,13 +1,16 @@
-// The picture of a sheet: its samples converted by the public entry, and the table that is written of it and of what was clipped in it.
+// The picture of a sheet: its samples converted by the public entry, and the table that is written of it and of what was clipped in it:
+// here as a `Page`, and in the module `lent`, by which the sheet goes, into the lent output.
 #![tactic(auto)]
 
-ghost use Rattle.std.specs.Prelude.{◌≡◌, ◌≤◌, take, T};
+ghost use Rattle.std.specs.Prelude.{◌≡◌, ◌≤◌, length, take, T};
 ghost use Rattle.yuv_support.specs.Settings.{among, depths};
+ghost use Rattle.yuv_support.specs.Counts.{clipped_in};
 ghost use Rattle.yuv_support.specs.Questions.{decoded};
 ghost use Rattle.yuv_support.specs.Conversion.{clipped_after, destination_after};
 ghost use Rattle.images.specs.Lent.{geometry};
 ghost use Rattle.sheet_values.specs.Values.{codes_of, widest};
 ghost use Rattle.sheet_table.specs.Table.{table};
+ghost use Rattle.sheet_table.specs.Shown.{Shows};
 ghost use Rattle.sheet_picture.specs.Samples.{Fit, Most, Samples, planes_frame};
 
 use elements::Element;
@@ -17,6 +20,8 @@ use sheet_table::shape::Shape;
 use sheet_values::Known;
 use yuv_support::{Clipped, Codes, Geometry};
 use yuv_to_rgba_bilinear::yuv_to_rgbx_bilinear;
+
+pub mod lent;
 
 // The samples of a sheet as they are read: the first ones of each array. The library uses no heap, so the arrays have room for 64 by 64.
 #[derive(Drop)]
@@ -36,7 +41,7 @@ pub struct Sheet {
 }
 
 // The first n numbers as samples.
-fn narrow<'a, S: Element>(numbers: &[u32; 4096], n: usize, plane: &'a mut [S; 4096]) -> &'a [S]
+fn narrow<'a, S: Element>(numbers: &[u32], n: usize, plane: &'a mut [S; 4096]) -> &'a [S]
     requires count { n ≤ 4096 }
     requires samples { Most S.most n numbers.now }
     requires wide { S.most ≤ 65535 }
@@ -69,7 +74,31 @@ fn convert<S: Element>(
     yuv_to_rgbx_bilinear(picture, codes, rgb, stride).unwrap_or(nothing)
 }
 
-// The table of a picture with elements of one width. Arrays, as in `Planes`, since the library uses no heap.
+// The picture from elements of one width; the answer is what was clipped in it. Arrays, as in `Planes`, since the library uses no heap.
+fn picture_at<S: Element>(known: Known, y: &[u32], u: &[u32], w: &[u32], rgb: &mut [S]) -> Clipped
+    requires fit { Fit S.known known.values }
+    requires samples { Samples S.most known.values y.now u.now w.now }
+    requires wide { S.most ≤ 65535 }
+    requires long { length rgb.old ≡ 16384 }
+    ensures shows { Shows (decoded (codes_of known.values))
+        (planes_frame known.values y.now u.now w.now) (S.numbers rgb.new) }
+    ensures counts { result
+        ≡ clipped_in (decoded (codes_of known.values))
+        (planes_frame known.values y.now u.now w.now) 0 known.values.height }
+{
+    let v = known.values;
+    let chroma = known.chroma_count();
+    let zero = S::from_u16(0);
+    let (mut samples, mut cb, mut cr) = ([zero; 4096], [zero; 4096], [zero; 4096]);
+    let luma = narrow(y, v.luma_count(), &mut samples);
+    let blue = narrow(u, chroma, &mut cb);
+    let red = narrow(w, chroma, &mut cr);
+    let picture = YuvPlanarImage::with_planes(Geometry::from(v), luma, blue, red);
+    let stride = images::row_length(v.width, known.settings.order);
+    convert(&picture, Codes::from(v), rgb, stride)
+}
+
+// The table of a picture with elements of one width.
 fn table_at<S: Element>(known: Known, planes: &Planes) -> Page
     requires fit { Fit S.known known.values }
     requires samples { Samples S.most known.values planes.now.y planes.now.u planes.now.v }
@@ -78,22 +107,13 @@ fn table_at<S: Element>(known: Known, planes: &Planes) -> Page
         ≡ table (decoded (codes_of known.values))
         (planes_frame known.values planes.now.y planes.now.u planes.now.v) }
 {
-    let v = known.values;
-    let chroma = known.chroma_count();
-    let zero = S::from_u16(0);
-    let (mut y, mut cb, mut cr) = ([zero; 4096], [zero; 4096], [zero; 4096]);
-    let luma = narrow(&planes.y, v.luma_count(), &mut y);
-    let blue = narrow(&planes.u, chroma, &mut cb);
-    let red = narrow(&planes.v, chroma, &mut cr);
-    let picture = YuvPlanarImage::with_planes(Geometry::from(v), luma, blue, red);
     let shape = Shape {
         order: known.settings.order,
-        width: v.width,
-        height: v.height,
+        width: known.values.width,
+        height: known.values.height,
     };
-    let stride = images::row_length(v.width, shape.order);
-    let mut rgb = [zero; 16384];
-    let clipped = convert(&picture, Codes::from(v), &mut rgb, stride);
+    let mut rgb = [S::from_u16(0); 16384];
+    let clipped = picture_at(known, &planes.y, &planes.u, &planes.v, &mut rgb);
     sheet_table::table_of(&rgb, shape, clipped)
 }
 

@@ -1,4 +1,5 @@
 // The table of a small picture: a heading, a line for each pixel, read from the picture's buffer, and a last line of what was clipped.
+// Here it is made as a `Page`; the sheet itself is written into its lent output, by the module `lent`.
 // The buffer is an array, since the library uses no heap: of 64 by 64 pixels of four letters, of which a picture has the first ones.
 // The buffer and the shape stay two parameters: each clause names the order, the width and the samples apart. That a row is below the height,
 // and how much room a text needs, is asked where it is used: each is one number.
@@ -17,6 +18,7 @@ use sample::Sample;
 use sheet_writing::{push_bytes, push_number};
 use yuv_support::{Clipped, YuvSourceChannels};
 
+pub mod lent;
 pub mod shape;
 
 // The bytes of a page: no sheet takes more.

@@ -5,13 +5,15 @@ use mathlib.Core.Bool.{Bool, true, false, cond, ◌&&◌, and-eq-true_iff}
 use mathlib.Core.List.{List, [], ◌∷◌}
 use Prim.Native.Nat.{ℕ, ◌≤◌, ◌<◌}
 use native.Mathlib.Omega.{arith}
-use borrow.Author.Tests.{leb-true, eqb-true}
+use borrow.Author.Tests.{leb-true, le-leb, lt-leb, eqb-true}
 use lib.Dec.{T, leb, eqb, lit<}
 use lib.ListN.{length, take, get_or}
 use lib.Pointwise.{pointwise}
+use lib.Seq.{sets}
 use Rattle.yuv_support.specs.Settings.{last_packing, among, depths}
 use Rattle.yuv_support.specs.Questions.{ask, verdict, decoded, codes_known}
 use Rattle.yuv_support.proofs.Tests.{passed}
+use Rattle.sheet_writing.specs.Text.{Wrote}
 use Rattle.sheet_numbers.specs.Numbers.{byte_at, number_at, begin, are_lines}
 use Rattle.sheet_numbers.proofs.OneNumber.{inside}
 use Rattle.sheet_numbers.proofs.ManyNumbers.{all_below_lem}
@@ -84,7 +86,27 @@ module _ (s : List ℕ) (v : Values) (small : is_small v ≡ true) where
   unfolding rest_formed sheet_frame
   planes_table e p = rw (small, e, p.luma, p.cb, p.cr)
 
+-- the same from an answer that says whether they are whole
+module _ {s : List ℕ} {v : Values} {r : Bool} {y u w : List ℕ} (small : is_small v ≡ true)
+    (answered : (r ≡ (has_planes s v && is_whole s v)) × (r ≡ true → PlanesRead s v y u w)) where
+  pub not_whole : r ≡ false → rest_text s v ≡ refusal 15
+  not_whole e = planes_missed s v small (sym answered.0 ∙ e)
+
+  pub rest_table : r ≡ true → rest_text s v ≡ table (decoded (codes_of v)) (planes_frame v y u w)
+  rest_table e = planes_table s v small (sym answered.0 ∙ e) (answered.1 e)
+
 -- ---- questions 1 and 2
+
+pub sampling_unknown : (s : List ℕ) (v : Values) → 1 < v.sampling → values_text s v ≡ refusal 1
+sampling_unknown s v h = rw (lt-leb v.sampling 1 h)
+
+pub code_unknown : (s : List ℕ) (v : Values) → v.sampling ≤ 1 → (codes_known (among v.depth depths) (codes_of v)).holds ≡ false
+    → values_text s v ≡ refusal 2
+code_unknown s v h e = rw (le-leb v.sampling 1 h, e)
+
+pub values_known : (s : List ℕ) (v : Values) → v.sampling ≤ 1 → (codes_known (among v.depth depths) (codes_of v)).holds ≡ true
+    → values_text s v ≡ rest_text s v
+values_known s v h e = rw (le-leb v.sampling 1 h, e)
 
 -- the settings that they answer with, or what is printed in their place
 pub settings_known : (s : List ℕ) (v : Values) {t : Settings} → settings_of v ≡ Ok t
@@ -200,3 +222,9 @@ module _ (s : List ℕ) where
 
   pub values_some : {t : Start} → has_names s ≡ true → has_values s ≡ true → t.values ≡ values_of s → t.at ≡ luma_begin s → Ok t ≡ start_of s
   values_some e f v a = rw (e, f, ← v, ← a)
+
+-- ---- the whole output
+
+pub wrote_whole : {old new : List ℕ} {next : ℕ} {text written : List ℕ} → Wrote old 0 written new next → text ≡ written
+    → (next ≡ length text) × (new ≡ sets old 0 text)
+wrote_whole {old} {new} {next} {text} {written} w e = rw e ((let p = w.place in omega arith, w.bytes))

@@ -1,2 +1,3 @@
 pub mod PlaneLines
 pub mod Answers
+pub mod Lengths

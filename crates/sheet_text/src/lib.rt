@@ -4,6 +4,7 @@
 
 ghost use Rattle.std.specs.Prelude.{◌≡◌, ◌&&◌, ◌≤◌, ◌<◌, length, is_some, IfSome, IfOk};
 ghost use Rattle.std.proofs.lemmas.List.Edits.{sets};
+ghost use Rattle.sheet_writing.specs.Text.{Wrote};
 ghost use Rattle.sheet_numbers.specs.Numbers.{are_lines};
 ghost use Rattle.sheet_numbers.specs.Read.{Lined};
 ghost use Rattle.sheet_values.specs.Values.{widest};
@@ -13,11 +14,11 @@ ghost use Rattle.sheet_text.specs.Sheet.{has_planes, is_whole, refusal, sheet_of
 ghost use Rattle.sheet_text.specs.Answer.{PlanesAsk, PlanesRead, start_of, printed};
 
 use sheet_numbers::{Lines, read_lines};
+use sheet_picture::lent::put_picture;
 use sheet_picture::{Planes, Sheet};
 pub use sheet_table::PAGE;
-use sheet_table::Page;
 use sheet_values::{Known, Refusal, Values};
-use sheet_writing::{push_bytes, push_number};
+use sheet_writing::lent::{put_bytes, put_number};
 
 // The values of the second line, and the place after it.
 #[derive(Clone, Copy)]
@@ -113,25 +114,28 @@ fn read_sheet(s: &[u8]) -> Result<Sheet, Refusal>
     Ok(Sheet { known, planes })
 }
 
-// The line of a refusal.
-#[tactic(auto, unfolding(crate::specs::Sheet::refusal, sheet_writing::specs::Text::number_text))]
-fn refusal_text(why: Refusal) -> Page
-    ensures { result.items ≡ refusal (number_of why) }
+// The line of a refusal, at the begin of the output.
+#[tactic(auto, unfolding(crate::specs::Sheet::refusal))]
+fn put_refusal(out: &mut [u8; PAGE], why: Refusal) -> usize
+    ensures written { Wrote out.old 0 (refusal (number_of why)) out.new result }
+    ensures fits { result ≤ 131072 }
 {
-    let mut text = Page::new();
-    push_bytes(&mut text, b"refused ");
-    push_number(&mut text, u32::from(why));
-    text.push(b'\n');
-    text
+    let at = put_bytes(out, 0, b"refused ");
+    put_number(out, at, u32::from(why), b'\n')
 }
 
-// The table, or the line of the refusal.
-fn text_of(s: &[u8]) -> Page
-    ensures { result.items ≡ sheet_of s.now }
+// The table of a sheet that was read, or the line of a refusal, at the begin of the output. Not by way of a `Page`, which would be cleared and
+// copied for each call.
+fn put_text(out: &mut [u8; PAGE], read: Result<Sheet, Refusal>) -> usize
+    ensures written { Wrote out.old 0 (printed read) out.new result }
+    ensures fits { result ≤ 131072 }
 {
-    match read_sheet(s) {
-        Ok(sheet) => sheet_picture::table_of(&sheet),
-        Err(why) => refusal_text(why),
+    match read {
+        Ok(sheet) => {
+            let Planes { y, u, v } = &sheet.planes;
+            put_picture(out, sheet.known.values, y, u, v)
+        }
+        Err(why) => put_refusal(out, why),
     }
 }
 
@@ -143,8 +147,5 @@ pub fn sheet_text(input: &[u8], output: &mut [u8; PAGE]) -> usize
     ensures text { output.new ≡ sets output.old 0 (sheet_of input.now) }
     ensures fits { result ≤ 131072 }
 {
-    let text = text_of(input);
-    let bytes = text.as_slice();
-    output[..bytes.len()].copy_from_slice(bytes);
-    bytes.len()
+    put_text(output, read_sheet(input))
 }

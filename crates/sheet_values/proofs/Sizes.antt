@@ -1,4 +1,4 @@
--- Bounds of the values that pass question 15 (`small_sides`): a chroma plane has at most 4,096 samples.
+-- Bounds of the values that pass question 15 (`small_sides`): each plane has at most 4,096 samples.
 -- Assumes nothing.
 use mathlib.Core.Path.{◌≡◌}
 use mathlib.Core.Bool.{true, ◌&&◌, and-eq-true_iff}
@@ -12,7 +12,7 @@ use Rattle.yuv_support.specs.declared.YuvChromaSubsampling.TheVariants.{Yuv420, 
 use Rattle.yuv_support.specs.Settings.{sampling_of}
 use Rattle.yuv_support.specs.Blend.{chroma_width, chroma_height}
 use Rattle.sheet_values.specs.declared.Values.{Values}
-use Rattle.sheet_values.specs.Values.{chroma_count, is_small}
+use Rattle.sheet_values.specs.Values.{luma_count, chroma_count, is_small}
 
 pub small_sides : (v : Values) → is_small v ≡ true → (1 ≤ v.width) × (v.width ≤ 64) × (1 ≤ v.height) × (v.height ≤ 64) × (v.matrix ≤ 5)
 small_sides v e =
@@ -28,7 +28,10 @@ unfolding chroma_height
 chroma_height_most Yuv420 h = omega arith
 chroma_height_most Yuv422 h = omega arith
 
--- the samples of a chroma plane
+-- the samples of a plane
+pub luma_count_most : (v : Values) → v.width ≤ 64 → v.height ≤ 64 → luma_count v ≤ 4096
+luma_count_most v hw hh = mul-le-mul hw hh
+
 pub chroma_count_most : (v : Values) → v.width ≤ 64 → v.height ≤ 64 → chroma_count v ≤ 4096
 chroma_count_most v hw hh =
     let w : chroma_width v.width ≤ 64 = omega arith in

@@ -2,15 +2,17 @@
 // them.
 #![tactic(auto)]
 
-ghost use Rattle.std.specs.Prelude.{◌≡◌};
-ghost use Rattle.yuv_support.specs.Questions.{decoded};
+ghost use Rattle.std.specs.Prelude.{◌≡◌, ◌*◌};
+ghost use Rattle.yuv_support.specs.Settings.{among, depths};
+ghost use Rattle.yuv_support.specs.Blend.{chroma_width, chroma_height};
+ghost use Rattle.yuv_support.specs.Questions.{codes_known, decoded};
 ghost use Rattle.sheet_values.specs.Values.{codes_of, image_of, luma_count, chroma_count, widest, is_small, values_in};
 ghost use Rattle.sheet_values.specs.Known.{number_of, settings_of};
 
 use sample::depths::EitherElement;
 use sample::plane::Size;
 use yuv_error::YuvError;
-use yuv_support::{Codes, Geometry, Settings};
+use yuv_support::{Codes, Geometry, Settings, YuvChromaSubsampling};
 
 // Why no table is printed: the first question that gets a "no".
 #[derive(Clone, Copy, Debug, PartialEq, Eq)]
@@ -109,6 +111,25 @@ impl Values {
         self.width as usize * self.height as usize
     }
 
+    // The samples of one chroma plane, whether or not questions 1 and 2 are answered: sampling 0 is 4:2:0, and each other is 4:2:2.
+    pub fn chroma_count(self) -> usize
+        ensures { result ≡ chroma_count self }
+    {
+        self.chroma_samples(yuv_support::sampling_of(self.sampling))
+    }
+
+    // The samples of one chroma plane, at a sampling.
+    fn chroma_samples(self, sampling: YuvChromaSubsampling) -> usize
+        ensures { result ≡ chroma_width self.width * chroma_height sampling self.height }
+    {
+        let luma = Size {
+            width: self.width,
+            height: self.height,
+        };
+        let chroma = images::chroma_size(sampling, luma);
+        chroma.width as usize * chroma.height as usize
+    }
+
     // The largest sample of the element's width.
     pub fn widest(self) -> u32
         ensures { result ≡ widest self }
@@ -125,6 +146,14 @@ impl Values {
             YuvError::UnknownSampling => Refusal::UnknownSampling,
             _ => Refusal::UnknownCode,
         })
+    }
+
+    // Question 2 alone: it is answered of any sampling.
+    #[tactic(auto, unfolding(yuv_error::specs::Asked::asked))]
+    pub fn is_known(self) -> bool
+        ensures { result ≡ (codes_known (among self.depth depths) (codes_of self)).holds }
+    {
+        images::check_codes::<EitherElement>(Codes::from(self)).is_ok()
     }
 
     // Whether sides and matrix are those of a sheet, which question 15 asks.
@@ -148,11 +177,6 @@ impl Known {
     pub fn chroma_count(self) -> usize
         ensures { result ≡ chroma_count self.values }
     {
-        let luma = Size {
-            width: self.values.width,
-            height: self.values.height,
-        };
-        let chroma = images::chroma_size(self.settings.sampling, luma);
-        chroma.width as usize * chroma.height as usize
+        self.values.chroma_samples(self.settings.sampling)
     }
 }

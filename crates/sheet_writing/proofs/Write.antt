@@ -4,12 +4,14 @@
 use mathlib.Core.Path.{◌≡◌, refl, sym, ◌∙◌}
 use mathlib.Core.Bool.{Bool, true, false, cond}
 use mathlib.Core.List.{List, [], ◌∷◌, ◌++◌, append_assoc, append-nil}
-use Prim.Native.Nat.{ℕ, zero, suc, ◌+◌, ◌/◌, ◌%◌, ◌≤◌, ◌<◌}
-use native.Mathlib.Nat.{add-zero}
+use Prim.Native.Nat.{ℕ, zero, suc, ◌+◌, ◌-◌, ◌*◌, ◌/◌, ◌%◌, ◌≤◌, ◌<◌}
+use native.Mathlib.Nat.{add-zero, mul-le-mul_left, mul-suc}
 use native.Mathlib.Omega.{arith}
+use borrow.Rule.Slice.PartMut.{put_mid}
+use borrow.Author.Tests.{le-leb, lt-leb}
 use lib.Dec.{leb}
 use lib.ListN.{length, length-append, set, take, drop}
-use lib.Seq.{sets, sets-eq, take_at}
+use lib.Seq.{sets, sets-eq, take_at, drop-drop}
 use Rattle.sheet_writing.specs.Text.{joined, leading_digit, decimal_text, number_text, Wrote}
 
 -- ---- one after the other
@@ -37,6 +39,26 @@ wrote_then {old} {at} {a} {b} {mid} {new} {next} {last} first second = record {
   bytes = second.bytes ∙ rw (first.bytes, first.place) (sets_append old at a b);
 }
 
+-- a digit, or none where the number is below its power of ten
+pub wrote_digit : {power n : ℕ} {old new : List ℕ} {at next : ℕ} → Wrote old at ((48 + n / power % 10) ∷ []) new next → power ≤ n
+    → Wrote old at (leading_digit power n) new next
+unfolding leading_digit
+wrote_digit {power} {n} w h = rw (le-leb power n h) w
+
+pub wrote_no_digit : (power n : ℕ) (old : List ℕ) (at : ℕ) → n < power → Wrote old at (leading_digit power n) old at
+unfolding leading_digit
+wrote_no_digit power n old at h = rw (lt-leb power n h) (wrote_nothing old at)
+
+-- a text copied to a part of a list
+pub wrote_part : (old text : List ℕ) {part : List ℕ} (at : ℕ) → part ≡ text → at + length text ≤ length old
+    → Wrote old at text (put_mid at (at + length text - at) old part) (at + length text)
+wrote_part old text {part} at e h =
+    let n : at + length text - at ≡ length text = omega arith in
+    record {
+      place = refl;
+      bytes = rw (e, n, sets-eq text old at h, drop-drop (length text) at old) (sym (append_assoc (take at old) text _));
+    }
+
 -- ---- lengths
 
 digit_length : (t : Bool) (x : ℕ) → length (cond t (x ∷ []) []) ≤ 1
@@ -57,6 +79,23 @@ decimal_text_length n =
 pub number_text_length : (n byte : ℕ) → length (number_text n byte) ≤ 6
 unfolding number_text
 number_text_length n byte = simp length-append (omega (arith, decimal_text_length n))
+
+-- where a digit and a number end that are written
+pub digit_most : (power n : ℕ) {old new : List ℕ} {at next : ℕ} → Wrote old at (leading_digit power n) new next → next ≤ at + 1
+digit_most power n w = omega (arith, w.place, leading_digit_length power n)
+
+pub number_most : (n byte : ℕ) {old new : List ℕ} {at next : ℕ} → Wrote old at (number_text n byte) new next → next ≤ at + 6
+number_most n byte w = omega (arith, w.place, number_text_length n byte)
+
+-- n texts of at most k bytes each
+pub joined_length : (f : ℕ → List ℕ) (k n : ℕ) → ((i : ℕ) → length (f i) ≤ k) → length (joined f n) ≤ k * n
+unfolding joined
+joined_length f k zero h = omega arith
+joined_length f k (suc n) h =
+    let i = joined_length f k n h in
+    let a = length-append (joined f n) (f n) in
+    let m = mul-suc k n in
+    omega (arith, h n)
 
 pub joined_one : (f : ℕ → List ℕ) (n : ℕ) → joined f (n + 1) ≡ joined f n ++ f n
 unfolding joined
@@ -93,3 +132,10 @@ module _ {f : ℕ → List ℕ} {limit : ℕ} {old : List ℕ} {at : ℕ} where
 
   pub joining_all : {new : List ℕ} {next n : ℕ} → Joining f limit old at new next n → limit ≤ n → Wrote old at (joined f limit) new next
   joining_all {new} {next} {n} j h = let e : limit ≡ n = omega (arith, j.most) in rw e j.wrote
+
+  -- the next text has room where `limit` texts of at most k bytes have
+  pub joining_room : {new : List ℕ} {next n : ℕ} (k : ℕ) → Joining f limit old at new next n → n < limit → ((i : ℕ) → length (f i) ≤ k)
+      → next + k ≤ at + k * limit
+  joining_room {new} {next} {n} k j h l =
+      let m : k * suc n ≤ k * limit = mul-le-mul_left k h in
+      omega (arith, m, mul-suc k n, joined_length f k n l, j.wrote.place)

@@ -7,6 +7,8 @@ ghost use Rattle.sheet_writing.specs.Text.{decimal_text};
 
 use arrayvec::ArrayVec;
 
+pub mod lent;
+
 // Bytes behind a text.
 pub fn push_bytes<const N: usize>(text: &mut ArrayVec<u8, N>, more: &[u8])
     requires { length text.old.items + length more.now ≤ N }

@@ -3,7 +3,7 @@
 // many of the 110 numbers were found and how many are missing.
 #![tactic(auto)]
 
-ghost use Rattle.std.specs.Prelude.{◌≡◌, ◌<◌, IfOk};
+ghost use Rattle.std.specs.Prelude.{◌≡◌, ◌<◌};
 ghost use Rattle.stored_rows.specs.Rows.{KeepsRule, agreeing, found_of};
 
 use std::io;
@@ -96,34 +96,39 @@ fn range_name(range: YuvRange) -> &'static str {
     }
 }
 
-// Line k; how many of its numbers were found.
-fn put_line(rt: &impl Print, k: usize) -> io::Result<u64>
-    requires { k < 22 }
-    ensures { IfOk result (λ n. n ≡ 5) }
-{
-    let s = line(k);
+// The line of a stored row, of which n numbers were found.
+fn print_row(rt: &impl Print, s: StoredRow, n: u64) -> io::Result<()> {
     let t = s.row;
-    let n = found(s);
     let word = if n == 5 { "found" } else { "missing" };
     print!(rt; "{} {} {:?} ", s.depth, range_name(s.range), s.matrix)?;
-    println!(rt; "{} {} {} {} {} {word}", t.y, t.cr, t.cb, t.g1, t.g2)?;
-    Ok(n)
+    println!(rt; "{} {} {} {} {} {word}", t.y, t.cr, t.cb, t.g1, t.g2)
+}
+
+// Line k; how many of its numbers were found. What cannot be written is lost, here and in `main`: the numbers are looked for all the same.
+fn put_line(rt: &impl Print, k: usize) -> u64
+    requires { k < 22 }
+    ensures { result ≡ 5 }
+{
+    let s = line(k);
+    let n = found(s);
+    let _ = print_row(rt, s, n);
+    n
 }
 
 // All lines; how many numbers were found.
-fn put_lines(rt: &impl Print) -> io::Result<u64>
-    ensures { IfOk result (λ n. n ≡ 110) }
+fn put_lines(rt: &impl Print) -> u64
+    ensures { result ≡ 110 }
 {
     let mut n = 0;
     // By number: that a line keeps the rule is proved of line k, where k < 22. By `enumerate` the row beside k would go unused.
     for k in 0..ROWS.len() {
-        n += put_line(rt, k)?;
+        n += put_line(rt, k);
     }
-    Ok(n)
+    n
 }
 
-fn main(rt: HostRuntime) -> io::Result<()> {
-    println!(rt; "depth range matrix y cr cb g1 g2")?;
-    let n = put_lines(&rt)?;
-    println!(rt; "{n} found, {} missing", 110 - n)
+fn main(rt: HostRuntime) {
+    let _ = println!(rt; "depth range matrix y cr cb g1 g2");
+    let n = put_lines(&rt);
+    let _ = println!(rt; "{n} found, {} missing", 110 - n);
 }

@@ -1,14 +1,41 @@
--- What the questions come to: their answer is the verdict on the planes' numbers (`answer_is`), where it is `Ok` the rows lie in their planes
--- (`fit_is`), and what is left in a plane goes by it (`after_ok`, `after_err`).
+-- What the questions come to: 22 of a plane holds where 5 and 6 of it are accepted (`usable_is`), their answer is the verdict on the planes'
+-- numbers (`answer_is`), where it is `Ok` the rows lie in their planes (`fit_is`), and what is left in a plane goes by it (`after_ok`,
+-- `after_err`).
 -- Assumes nothing.
-use Rattle.std.proofs.Common.{◌≡◌, ℕ, ◌*◌, true, false, refl, eqb, leb, List, length, map, Result, Ok, Err, is_ok, IfOk, sym, ap, ◌∙◌, eqb-true}
-use mathlib.Core.Bool.{and-eq-true_iff}
+use Rattle.std.proofs.Common.{
+  ◌≡◌,
+  ℕ,
+  ◌*◌,
+  Bool,
+  true,
+  false,
+  cond,
+  refl,
+  eqb,
+  leb,
+  List,
+  [],
+  ◌∷◌,
+  length,
+  map,
+  Result,
+  Ok,
+  Err,
+  is_ok,
+  IfOk,
+  sym,
+  ap,
+  ◌∙◌,
+  eqb-true,
+}
+use mathlib.Core.Bool.{◌&&◌, and-eq-true_iff}
 use borrow.Author.Tests.{leb-true}
-use Rattle.yuv_support.specs.Questions.{Verdict, extent, needed}
+use Rattle.yuv_support.specs.Questions.{Verdict, Extent, extent, accepted, needed, destination, verdict}
 use Rattle.yuv_support.proofs.Questions.{each_holds}
 use Rattle.yuv_error.specs.declared.buffers.Buffer.{Buffer}
 use Rattle.yuv_error.specs.declared.error.YuvError.{YuvError}
-use Rattle.yuv_error.specs.Told.{answered}
+use Rattle.yuv_error.specs.declared.error.YuvError.TheVariants.{UnusablePlane}
+use Rattle.yuv_error.specs.Told.{told, answered}
 use Rattle.yuv_error.specs.Asked.{asked, giving}
 use Rattle.yuv_error.proofs.Asked.{asked_answered}
 use Rattle.yuv_error.proofs.Refused.{refused_number}
@@ -16,6 +43,35 @@ use Rattle.sample.proofs.Numbers.{numbers_length}
 use Rattle.planes.specs.Woven.{Plane, lent}
 use Rattle.planes.specs.Fits.{RowsFit, PlanesFit}
 use Rattle.weave.specs.Weaving.{plane_usable, weave_questions, extent_of, weave_answer, after}
+
+-- ---- one plane
+
+pub usable_is : (e : Extent) (n height : ℕ) → eqb (verdict (destination e n height)).number 0 ≡ (plane_usable e n height).holds
+unfolding verdict
+usable_is e n height = by_tests (leb (needed e.stride n height) e.length) (leb n e.stride) _ _ _ _
+  where
+    by_tests : (a b : Bool) (x x' y y' : ℕ)
+        → eqb (cond a (cond b accepted (record { number = 6; expected = x; received = x' }))
+        (record { number = 5; expected = y; received = y' })).number 0 ≡ (a && b)
+    by_tests true true x x' y y' = refl
+    by_tests true false x x' y y' = refl
+    by_tests false b x x' y y' = refl
+
+-- r is the answer to 5 and 6, and `says` whether it was accepted
+module _ {A : Type 0} (r : Result A YuvError) (says : Bool) (e : Extent) (n height : ℕ) (is : answered r ≡ verdict (destination e n height))
+    (s : says ≡ eqb (answered r).number 0) where
+  plane_holds : (plane_usable e n height).holds ≡ says
+  plane_holds = sym (s ∙ rw is (usable_is e n height))
+
+  pub plane_accepted : says ≡ true → accepted ≡ verdict (plane_usable e n height ∷ [])
+  unfolding verdict
+  plane_accepted t = let h : (plane_usable e n height).holds ≡ true = plane_holds ∙ t in rw h refl
+
+  pub plane_refused : says ≡ false → told UnusablePlane ≡ verdict (plane_usable e n height ∷ [])
+  unfolding verdict
+  plane_refused f = let h : (plane_usable e n height).holds ≡ false = plane_holds ∙ f in rw h refl
+
+-- ---- all of them
 
 rows_fit : (p : Plane) (n height : ℕ) → (plane_usable (extent_of p) n height).holds ≡ true → RowsFit n height p
 rows_fit p n height h =

@@ -1,23 +1,31 @@
--- What the questions of a written stream come to. The output is left, and the bytes written are told, as the verdict says, be it a header's or
--- a frame's.
+-- What the questions of a written stream come to. 1 to 4, accepted, bound the sides (`sides_bounded`); the output is left, and the bytes
+-- written are told, as the verdict says, be it a header's or a frame's.
 -- Assumes nothing.
 use mathlib.Core.Path.{◌≡◌, refl, sym, ap, ◌∙◌}
-use mathlib.Core.List.{List}
+use mathlib.Core.Bool.{Bool}
+use mathlib.Core.List.{List, [], ◌∷◌}
 use Prim.Native.Nat.{ℕ}
 use Rattle.std.specs.Prelude.{Result, Ok, Err}
 use Rattle.yuv_support.specs.declared.Geometry.{Geometry}
 use Rattle.yuv_support.specs.Settings.{sampling_of}
-use Rattle.yuv_support.specs.Questions.{Verdict}
+use Rattle.yuv_support.specs.Questions.{Verdict, ask, verdict, sampling_known, sides}
+use Rattle.yuv_support.proofs.Questions.{both_accepted}
 use Rattle.yuv_error.specs.declared.error.YuvError.{YuvError}
 use Rattle.yuv_error.specs.Told.{answered}
 use Rattle.yuv_error.specs.Asked.{asked, giving}
 use Rattle.yuv_error.proofs.Asked.{asked_answered}
 use Rattle.yuv_error.proofs.Refused.{refused_number}
 use Rattle.images.specs.declared.Lengths.{Lengths}
+use Rattle.images.proofs.Held.{Sides, sides_held}
 use Rattle.y4m_frames.specs.Stream.{depths_of}
 use Rattle.y4m.specs.Writing.{told_written, output_after, header_asked, write_header_answer, frame_asked, write_frame_answer}
-use Rattle.y4m.specs.Inner.{written_by, output_by, OutputFits}
+use Rattle.y4m.specs.Inner.{written_by, output_by, format_questions, OutputFits}
 use Rattle.y4m.proofs.WrittenBytes.{frame_accepted}
+
+pub sides_bounded : (sampling : ℕ) (depth_known : Bool) (width height : ℕ) → (verdict (format_questions sampling depth_known width height)).number ≡ 0
+    → Sides width height
+sides_bounded sampling depth_known width height a =
+    sides_held width height (both_accepted (sampling_known sampling ∷ ask 2 depth_known ∷ []) (sides width height) refl a).1
 
 -- ---- an answer and its verdict
 

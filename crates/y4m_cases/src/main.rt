@@ -171,11 +171,12 @@ fn write_words(rt: &impl Print) -> io::Result<()> {
     show_written(rt, "a frame of 10 bits", w, &out)
 }
 
-fn main(rt: HostRuntime) -> io::Result<()> {
-    show_all(&rt, &CASES)?;
-    write_headers(&rt)?;
-    write_bytes(&rt, "a frame", 8, &mut [b'*'; 16])?;
-    write_bytes(&rt, "a frame without room", 8, &mut [b'*'; 11])?;
-    write_bytes(&rt, "a frame of 10 bits from bytes", 10, &mut [b'*'; 11])?;
-    write_words(&rt)
+// What cannot be written is lost, and the status is 0 all the same.
+fn main(rt: HostRuntime) {
+    let _ = show_all(&rt, &CASES);
+    let _ = write_headers(&rt);
+    let _ = write_bytes(&rt, "a frame", 8, &mut [b'*'; 16]);
+    let _ = write_bytes(&rt, "a frame without room", 8, &mut [b'*'; 11]);
+    let _ = write_bytes(&rt, "a frame of 10 bits from bytes", 10, &mut [b'*'; 11]);
+    let _ = write_words(&rt);
 }

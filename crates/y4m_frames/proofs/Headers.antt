@@ -1,6 +1,6 @@
 -- What a header that was read says, and question 17 of it: sides above 16,384 are told as 16,385, which question 17 refuses alike.
 -- Assumes nothing.
-use mathlib.Core.Path.{◌≡◌, refl, ap, ◌∙◌}
+use mathlib.Core.Path.{◌≡◌, refl, sym, ap, ◌∙◌}
 use mathlib.Core.Bool.{Bool, true, false, cond, ◌&&◌, and-eq-true_iff}
 use mathlib.Core.List.{List}
 use mathlib.Core.Logic.{◌⊎◌, inl, inr}
@@ -8,6 +8,7 @@ use Prim.Native.Nat.{ℕ, ◌≤◌, ◌<◌}
 use native.Mathlib.Omega.{arith}
 use borrow.Author.Tests.{eqb-true, le-leb, lt-leb}
 use lib.Dec.{leb, eqb}
+use Rattle.std.specs.Option.{option_map_or}
 use Rattle.std.specs.Result.{result_ok}
 use Rattle.std.specs.Prelude.{Some, None, Result, Ok, Err}
 use Rattle.std.proofs.lemmas.Bool.{cases_lt}
@@ -15,6 +16,7 @@ use Rattle.yuv_support.specs.Settings.{among, depths8, depths16}
 use Rattle.yuv_support.specs.Questions.{verdict}
 use Rattle.images.proofs.Held.{Sides, sides_held}
 use Rattle.sheet_numbers.proofs.Optional.{some_met, none_unmet}
+use Rattle.y4m_text.specs.declared.Format.{Format}
 use Rattle.y4m_lines.specs.declared.Header.{Header}
 use Rattle.y4m_lines.specs.Lines.{past_line}
 use Rattle.y4m_lines.specs.Header.{known_format, is_header, width_of, height_of, format_in}
@@ -73,6 +75,14 @@ capped_known : (width height : ℕ) → sides_known (capped width) (capped heigh
 unfolding verdict
 capped_known width height = rw (least_same width, least_same height, most_same width, most_same height)
 
+-- the depth of a format that is told, 0 standing for that of none
+depth_told : (f : Format) → option_map_or (λ (g : Format). g.depth) (known_format f) 0 ≡ f.depth
+depth_told f = go (eqb f.depth 0) refl
+  where
+    go : (t : Bool) → eqb f.depth 0 ≡ t → option_map_or (λ (g : Format). g.depth) (cond t None (Some f)) 0 ≡ f.depth
+    go true e = sym (eqb-true _ 0 e)
+    go false e = refl
+
 unknown_depth : (e : ℕ) → among 0 (depths_of e) ≡ false
 unknown_depth e = by_size (eqb e 1)
   where
@@ -81,6 +91,11 @@ unknown_depth e = by_size (eqb e 1)
     by_size false = refl
 
 module _ {s : List ℕ} {h : Header} (is : HeaderIs s h) where
+  pub known_is : (known : List ℕ) {result : Bool}
+      → result ≡ (among (option_map_or (λ (f : Format). f.depth) h.format 0) known && sides_known h.width h.height) → result ≡ is_known known s
+  unfolding is_known
+  known_is known e = e ∙ rw (is.width, is.height, is.format, depth_told (format_in s), capped_known (width_of s) (height_of s))
+
   pub known_met : (known : List ℕ) → among 0 known ≡ false → known_header known h ≡ header_known known s
   unfolding is_known
   known_met known zero_unknown = rw (is.width, is.height, is.format) (by_depth (eqb (format_in s).depth 0) refl)
@@ -99,6 +114,18 @@ module _ {s : List ℕ} {h : Header} (is : HeaderIs s h) where
           → known_with known (capped (width_of s)) (capped (height_of s)) (cond t None (Some (format_in s))) ≡ header_known known s
       by_depth true e = rw (eqb-true _ 0 e, zero_unknown) refl
       by_depth false e = rw (capped_known (width_of s) (height_of s)) (by_sides (among (format_in s).depth known && sides_known (width_of s) (height_of s)) refl)
+
+  -- a known header has the stream's own sides
+  module _ (known : List ℕ) (k : is_known known s ≡ true) where
+    pub stream_sides : Sides (width_of s) (height_of s)
+    unfolding is_known
+    stream_sides = sides_known_lem (width_of s) (height_of s) ((and-eq-true_iff (among (format_in s).depth known) _).0 k).1
+
+    pub width_is : h.width ≡ width_of s
+    width_is = omega (arith, is.width, stream_sides.width_most)
+
+    pub height_is : h.height ≡ height_of s
+    height_is = omega (arith, is.height, stream_sides.height_most)
 
   -- with samples of so many bytes
   pub known_met_of : (e : ℕ) → known_header (depths_of e) h ≡ header_known (depths_of e) s

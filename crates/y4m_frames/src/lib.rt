@@ -5,14 +5,15 @@
 // the text.
 #![tactic(auto)]
 
-ghost use Rattle.std.specs.Prelude.{◌≡◌, true, cond, ◌*◌, ◌≤◌, eqb, length, Some, IfSome, IfOk};
+ghost use Rattle.std.specs.Prelude.{◌≡◌, true, cond, ◌&&◌, ◌*◌, ◌≤◌, eqb, length, Some, IfSome, IfOk};
+ghost use Rattle.yuv_support.specs.Settings.{sampling_of};
 ghost use Rattle.yuv_support.specs.Questions.{verdict};
 ghost use Rattle.y4m_lines.specs.Lines.{past_line};
 ghost use Rattle.y4m_lines.specs.Header.{is_header};
 ghost use Rattle.y4m_lines.specs.Read.{header_read};
 ghost use Rattle.yuv_error.specs.Told.{answered};
 ghost use Rattle.yuv_error.specs.Asked.{asked, giving};
-ghost use Rattle.y4m_frames.specs.Stream.{depths_of};
+ghost use Rattle.y4m_frames.specs.Stream.{depths_of, sides_known};
 ghost use Rattle.y4m_frames.specs.Questions.{lent_image, frame_answer};
 ghost use Rattle.y4m_frames.specs.Judged.{known_header, header_known, header_said, samples_at, places_of, frame_in, samples_questions, judged_frame};
 
@@ -87,6 +88,18 @@ pub fn check_known<D: Depths>(h: Header) -> Result<KnownHeader, YuvError>
     Ok(KnownHeader { size, format })
 }
 
+// Question 17 of a header, the depth being known or not.
+#[tactic(auto, unfolding(yuv_error::specs::Asked::asked, yuv_support::specs::Questions::verdict))]
+pub fn is_known(h: Header, depth_known: bool) -> bool
+    ensures { result ≡ (depth_known && sides_known h.width h.height) }
+{
+    let size = Size {
+        width: h.width,
+        height: h.height,
+    };
+    depth_known && check_sides(size).is_ok()
+}
+
 // ---- the place of a frame
 
 // The place that a frame is asked for at; 0 is for the header's end, since C hands a number over.
@@ -141,6 +154,17 @@ pub fn places_of<S: Sample>(at: usize, sampling: YuvChromaSubsampling, size: Siz
     let v = u + chroma;
     let end = v + chroma;
     Places { y: at, u, v, end }
+}
+
+// The same, the sampling being told by any code: 0 is 4:2:0, every other 4:2:2.
+pub fn places_of_code<S: Sample>(at: usize, sampling: u32, width: u32, height: u32) -> Places
+    requires width_most { width ≤ 16384 }
+    requires height_most { height ≤ 16384 }
+    requires place { at ≤ 9223372036854775808 }
+    ensures { result ≡ places_of S.SIZE at (sampling_of sampling) width height }
+{
+    let sampling = yuv_support::sampling_of(sampling);
+    places_of::<S>(at, sampling, Size { width, height })
 }
 
 // ---- the questions

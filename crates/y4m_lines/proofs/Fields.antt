@@ -4,10 +4,12 @@
 use mathlib.Core.Path.{◌≡◌, refl, sym, ap, ◌∙◌}
 use mathlib.Core.Bool.{Bool, true, false, cond, not}
 use mathlib.Core.List.{List, [], ◌∷◌, ◌++◌, append-nil}
-use Prim.Native.Nat.{ℕ, zero, suc, ◌+◌, ◌≤◌, ◌<◌, min}
+use Prim.Native.Nat.{ℕ, zero, suc, ◌+◌, ◌-◌, ◌≤◌, ◌<◌, min}
+use native.Mathlib.Numerals.{add-one}
 use native.Mathlib.Omega.{arith}
 use lib.Dec.{eqb, leb, eqb-suc-zero}
-use lib.ListN.{length, length-append, take, drop, get_or}
+use lib.ListN.{length, length-append, length-drop, take, drop, get_or}
+use lib.Seq.{drop-cons}
 use borrow.Author.Tests.{eq-eqb, ne_eqb, le-leb}
 use denote.Ref.{Bor}
 use Rattle.std.specs.Prelude.{Option, Some, None}
@@ -19,6 +21,15 @@ use Rattle.y4m_lines.specs.Header.{behind, named}
 
 -- ---- the bytes before a byte
 
+pub before_most : (b : ℕ) (xs : List ℕ) → length (before b xs) ≤ length xs
+unfolding before
+before_most b [] = omega arith
+before_most b (x ∷ xs) = go (eqb x b) (before_most b xs)
+  where
+    go : (t : Bool) → length (before b xs) ≤ length xs → length (cond t [] (x ∷ before b xs)) ≤ suc (length xs)
+    go true h = omega arith
+    go false h = omega arith
+
 pub before_take : (b : ℕ) (xs : List ℕ) → before b xs ≡ take (length (before b xs)) xs
 unfolding before
 before_take b [] = refl
@@ -28,6 +39,16 @@ before_take b (x ∷ xs) = go (eqb x b) (before_take b xs)
         → cond t [] (x ∷ before b xs) ≡ take (length (cond t [] (x ∷ before b xs))) (x ∷ xs)
     go true e = refl
     go false e = ap {B = List ℕ} (λ r. x ∷ r) e
+
+-- the first of the bytes from a place on is b, or is not
+module _ (s : List ℕ) (b : ℕ) {k : ℕ} (h : k < length s) where
+  pub before_here : get_or s k 0 ≡ b → length (before b (drop k s)) ≡ 0
+  unfolding before
+  before_here e = rw (drop-cons s k 0 h, eq-eqb (get_or s k 0) b e)
+
+  pub before_on : (get_or s k 0 ≡ b → ⊥) → length (before b (drop k s)) ≡ suc (length (before b (drop (k + 1) s)))
+  unfolding before
+  before_on e = rw (add-one, drop-cons s k 0 h, ne_eqb (get_or s k 0) b e)
 
 -- among the first n bytes
 pub before_within : (b n : ℕ) (xs : List ℕ) → length (before b (take n xs)) ≡ min n (length (before b xs))
@@ -50,6 +71,18 @@ before_count b (x ∷ xs) = go (eqb x b) (before_count b xs)
         → cond (not t) (1 + prefix_len (λ x. not (eqb x b)) xs) 0 ≡ length (cond t [] (x ∷ before b xs))
     go true h = refl
     go false h = omega arith
+
+-- among all bytes from a place on
+pub all_found : (s : List ℕ) (at b : ℕ) {end : ℕ} → at ≤ length s → end ≡ at + min (length s - at) (length (before b (drop at s)))
+    → end ≡ at + length (before b (drop at s))
+all_found s at b h e =
+    let d = length-drop at s in
+    let m = before_most b (drop at s) in
+    omega arith
+
+-- a field that begins in a line ends in it
+pub end_within : (line : List ℕ) (at : ℕ) {end : ℕ} → at ≤ length line → end ≡ at + length (before 32 (drop at line)) → end ≤ length line
+end_within line at h e = omega (arith, before_most 32 (drop at line), length-drop at line)
 
 -- ---- the fields
 

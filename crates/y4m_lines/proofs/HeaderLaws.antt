@@ -26,15 +26,15 @@ use Rattle.y4m_lines.proofs.OneLine.{Lined}
 
 -- ---- a side and the colour, by the texts of their fields
 
-side_absent : {texts : List (List ℕ)} → texts ≡ [] → None ≡ side_read texts
+pub side_absent : {texts : List (List ℕ)} → texts ≡ [] → None ≡ side_read texts
 unfolding is_side
 side_absent e = rw e
 
-side_single : {texts : List (List ℕ)} {text : List ℕ} → texts ≡ text ∷ [] → number_read text ≡ side_read texts
+pub side_single : {texts : List (List ℕ)} {text : List ℕ} → texts ≡ text ∷ [] → number_read text ≡ side_read texts
 unfolding is_side side_of
 side_single e = rw e
 
-side_several : (texts : List (List ℕ)) → 2 ≤ length texts → None ≡ side_read texts
+pub side_several : (texts : List (List ℕ)) → 2 ≤ length texts → None ≡ side_read texts
 unfolding is_side
 side_several [] h = absurd (omega arith)
 side_several (text ∷ []) h = absurd (omega arith)
@@ -82,10 +82,10 @@ colour_several (text ∷ []) r e h = absurd (omega arith)
 colour_several (text ∷ second ∷ more) (Err f) e h = refl
 colour_several (text ∷ second ∷ more) (Ok x) e h = absurd (cc)
 
-side_is : (texts : List (List ℕ)) {value : ℕ} → Some value ≡ side_read texts → (is_side texts ≡ true) × (value ≡ capped (side_of texts))
+pub side_is : (texts : List (List ℕ)) {value : ℕ} → Some value ≡ side_read texts → (is_side texts ≡ true) × (value ≡ capped (side_of texts))
 side_is texts {value} e = some_met (is_side texts) _ value (sym e)
 
-no_side : (texts : List (List ℕ)) → None ≡ side_read texts → is_side texts ≡ false
+pub no_side : (texts : List (List ℕ)) → None ≡ side_read texts → is_side texts ≡ false
 no_side texts e = none_unmet (is_side texts) _ (sym e)
 
 -- what an answer by a test leaves of its `Ok`
@@ -93,11 +93,11 @@ ok_if : {A E : Type 0} (t : Bool) (a : A) (f : E) → cond t (Some a) None ≡ r
 ok_if true a f = refl
 ok_if false a f = refl
 
-colour_is : (texts : List (List ℕ)) {found : Option Format} → result_ok (colour_read texts) ≡ Some found
+pub colour_is : (texts : List (List ℕ)) {found : Option Format} → result_ok (colour_read texts) ≡ Some found
     → (is_colour texts ≡ true) × (found ≡ known_format (colour_of texts))
 colour_is texts {found} e = some_met (is_colour texts) _ found (ok_if (is_colour texts) _ _ ∙ e)
 
-no_colour : (texts : List (List ℕ)) → result_ok (colour_read texts) ≡ None → is_colour texts ≡ false
+pub no_colour : (texts : List (List ℕ)) → result_ok (colour_read texts) ≡ None → is_colour texts ≡ false
 no_colour texts e = none_unmet (is_colour texts) _ (ok_if (is_colour texts) _ _ ∙ e)
 
 -- ---- what reading the header answers
@@ -111,7 +111,7 @@ pub no_line : (s : List ℕ) → is_line s 0 ≡ false → None ≡ header_read 
 unfolding header_read is_header
 no_line s e = rw e
 
-first_text : {s : List ℕ} {end : ℕ} → Lined s 0 end → take end s ≡ line_at s 0
+pub first_text : {s : List ℕ} {end : ℕ} → Lined s 0 end → take end s ≡ line_at s 0
 first_text {s} {end} l = let e : end ≡ end - 0 = omega arith in rw e l.text
 
 module _ {s : List ℕ} {end : ℕ} (l : Lined s 0 end) where

@@ -27,6 +27,9 @@ pub digits_none : (text : List ℕ) → Digits text 0 0
 unfolding decimal
 digits_none text = record { most = omega arith; digits = all_none (digit_at text); number = refl }
 
+pub digits_bound : {text : List ℕ} {value i : ℕ} → Digits text value i → value ≤ 16385
+digits_bound d = omega (arith, d.number)
+
 pub digits_one : {text : List ℕ} {value i byte next : ℕ} → Digits text value i → i < length text → byte ≡ byte_at text i → is_digit byte ≡ true
     → next ≡ capped (10 * value + (byte - 48)) → Digits text next (i + 1)
 unfolding decimal

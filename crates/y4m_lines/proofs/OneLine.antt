@@ -81,6 +81,9 @@ lined s at {end} e m =
 
 -- ---- what a caller knows of a frame line that was read
 
+pub frame_missed : (s : List ℕ) (at : ℕ) {result : Option ℕ} → result ≡ frame_line_read s at → result ≡ None → is_frame_line s at ≡ false
+frame_missed s at e m = none_unmet (is_frame_line s at) (at + length (line_at s at)) (sym e ∙ m)
+
 pub frame_lined : (s : List ℕ) (at : ℕ) {end : ℕ} {result : Option ℕ} → result ≡ frame_line_read s at → result ≡ Some end
     → (is_frame_line s at ≡ true) × Lined s at end
 unfolding is_frame_line

@@ -1,2 +1,3 @@
 pub mod ReadBack
 pub mod Codes
+pub mod Texts

@@ -1,9 +1,10 @@
 -- Document 02, slip 2: the two lines that are written.
 -- Definitions only.
-use Rattle.std.specs.Prelude.{ℕ, cond, List, [], ◌∷◌, ◌++◌, eqb}
+use Rattle.std.specs.Prelude.{ℕ, cond, List, [], ◌∷◌, ◌++◌, eqb, take}
 use Rattle.yuv_support.specs.declared.YuvChromaSubsampling.{YuvChromaSubsampling}
 use Rattle.yuv_support.specs.declared.YuvChromaSubsampling.TheVariants.{Yuv420, Yuv422}
 use Rattle.sheet_writing.specs.Text.{decimal_text}
+use Rattle.y4m_text.specs.declared.Text.{Text}
 use Rattle.y4m_text.specs.Words.{header_word, frame_word, c420jpeg, c422, c420p10, c422p10, c420p12, c422p12}
 
 -- the code of a sampling
@@ -29,3 +30,7 @@ header_text sampling depth width height =
 -- "FRAME alone on its line"
 abbrev pub frame_line : List ℕ
 frame_line = frame_word ++ 10 ∷ []
+
+-- the bytes that a text holds so far
+abbrev pub held : Text → List ℕ
+held t = take t.length t.bytes

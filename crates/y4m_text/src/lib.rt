@@ -2,7 +2,7 @@
 #![tactic(auto)]
 
 ghost use Rattle.std.specs.Prelude.{◌≡◌, ◌≤◌, length};
-ghost use Rattle.y4m_text.specs.Write.{code_of, name_of, header_text};
+ghost use Rattle.y4m_text.specs.Write.{code_of, name_of, header_text, held};
 
 use arrayvec::ArrayVec;
 use sample::plane::Size;
@@ -14,6 +14,13 @@ use yuv_support::YuvChromaSubsampling;
 pub struct Format {
     pub sampling: YuvChromaSubsampling,
     pub depth: u32,
+}
+
+// A short text: its first `length` bytes.
+#[derive(Clone, Copy)]
+pub struct Text {
+    pub bytes: [u8; 40],
+    pub length: usize,
 }
 
 // The code of a sampling: C is handed the code, and the definitions of the text are over it. No
@@ -60,4 +67,23 @@ pub fn header_text(format: Format, size: Size) -> ArrayVec<u8, 40>
     push_bytes(&mut text, name_of(format));
     text.push(b'\n');
     text
+}
+
+// The header line of a stream whose sampling is told by any code: 0 is 4:2:0, every other 4:2:2.
+pub fn header_text_of_code(sampling: u32, depth: u32, width: u32, height: u32) -> Text
+    ensures text { held result ≡ header_text sampling depth width height }
+    ensures count { result.length ≡ length (header_text sampling depth width height) }
+    ensures most { result.length ≤ 40 }
+{
+    let format = Format {
+        sampling: yuv_support::sampling_of(sampling),
+        depth,
+    };
+    let line = header_text(format, Size { width, height });
+    let mut bytes = [0u8; 40];
+    bytes[..line.len()].copy_from_slice(line.as_slice());
+    Text {
+        bytes,
+        length: line.len(),
+    }
 }

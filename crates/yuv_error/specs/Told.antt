@@ -82,6 +82,11 @@ abbrev pub rows_of : Result Band YuvError → ℕ
 rows_of (Ok b) = b.rows
 rows_of (Err e) = 0
 
+-- the next first row of a band from row `first` on; that of a refused one is its own
+abbrev pub next_of : ℕ → Result Band YuvError → ℕ
+next_of first (Ok b) = b.next
+next_of first (Err e) = first
+
 -- ---- the numbers as the structs that are handed out
 
 abbrev pub as_told : Verdict → Told

@@ -5,7 +5,7 @@
 ghost use Rattle.std.specs.Prelude.{◌≡◌, ◌+◌, ◌<◌, ◌^◌};
 ghost use Rattle.yuv_support.specs.Counts.{unclipped};
 ghost use Rattle.yuv_support.specs.Questions.{accepted};
-ghost use Rattle.yuv_error.specs.Told.{told, answered, clipped_of, band_clipped_of, rows_of, as_told, as_report, as_band_report};
+ghost use Rattle.yuv_error.specs.Told.{told, answered, clipped_of, band_clipped_of, rows_of, as_told, as_report, band_numbers, as_band_report};
 
 use crate::error::{MismatchedSize, YuvError};
 use yuv_support::Clipped;
@@ -43,11 +43,12 @@ pub struct BandReport {
     pub next: u64,
 }
 
-// What an accepted band leaves.
+// What an accepted band leaves: how many rows were written, what was clipped, and the next first row.
 #[derive(Clone, Copy, Debug, PartialEq, Eq)]
 pub struct Band {
     pub rows: u32,
     pub clipped: Clipped,
+    pub next: u32,
 }
 
 fn refused(number: u64) -> Told
@@ -127,8 +128,8 @@ fn counted(told: Told, clipped: Clipped) -> Report
     }
 }
 
-// An answer of a band from row `first` on.
-fn placed(told: Told, band: Band, first: u32) -> BandReport
+// An answer of a band, and the next first row.
+fn placed(told: Told, band: Band, next: u64) -> BandReport
     ensures { result
         ≡ record {
           number = told.number;
@@ -137,7 +138,7 @@ fn placed(told: Told, band: Band, first: u32) -> BandReport
           below = band.clipped.below;
           above = band.clipped.above;
           rows = band.rows;
-          next = first + band.rows;
+          next = next;
         } }
 {
     let report = counted(told, band.clipped);
@@ -148,7 +149,7 @@ fn placed(told: Told, band: Band, first: u32) -> BandReport
         below: report.below,
         above: report.above,
         rows: band.rows as u64,
-        next: first as u64 + band.rows as u64,
+        next,
     }
 }
 
@@ -169,11 +170,25 @@ pub fn answer_alone(answer: Result<(), YuvError>) -> Report
     counted(told_of(answer), unclipped())
 }
 
+// An answer and counts, whatever they are.
+pub fn report_with(answer: Result<(), YuvError>, clipped: Clipped) -> Report
+    ensures { result ≡ as_report (answered answer) clipped }
+{
+    counted(told_of(answer), clipped)
+}
+
 // The answer of a conversion; a refused one clips nothing.
 pub fn report_of(answer: Result<Clipped, YuvError>) -> Report
     ensures { result ≡ as_report (answered answer) (clipped_of answer) }
 {
     counted(told_of(answer), answer.unwrap_or(unclipped()))
+}
+
+// An answer and a band, whatever the band has: its rows, its counts and its next first row.
+pub fn band_report_with(answer: Result<(), YuvError>, band: Band) -> BandReport
+    ensures { result ≡ band_numbers (answered answer) band.clipped band.rows band.next }
+{
+    placed(told_of(answer), band, band.next as u64)
 }
 
 // The answer of a band from row `first` on; a refused one writes no row and clips nothing, and the next first row is its own.
@@ -184,6 +199,9 @@ pub fn band_report_of(answer: Result<Band, YuvError>, first: u32) -> BandReport
     let nothing = Band {
         rows: 0,
         clipped: unclipped(),
+        next: first,
     };
-    placed(told_of(answer), answer.unwrap_or(nothing), first)
+    let band = answer.unwrap_or(nothing);
+    let next = first as u64 + band.rows as u64;
+    placed(told_of(answer), band, next)
 }

@@ -108,10 +108,14 @@ pub far_of_second : (height k : ℕ) → far_row Yuv420 height (2 * k + 1) ≡ k
 unfolding far_row
 far_of_second height k = let e : (2 * k + 1) % 2 ≡ 1 = omega arith in rw e (omega arith)
 
--- a row of a whole pair has two chroma rows
+-- a row of a whole pair has two chroma rows; an odd last row has one
 pub pair_has_two : (height row : ℕ) → row / 2 < height / 2 → rows_of Yuv420 height row ≡ two
 unfolding rows_of
 pair_has_two height row h = rw (lt-ltb (row / 2) (height / 2) h)
+
+pub last_has_one : (height row : ℕ) → height / 2 ≤ row / 2 → rows_of Yuv420 height row ≡ one
+unfolding rows_of
+last_has_one height row h = rw (le-ltb (row / 2) (height / 2) h)
 
 -- of luma pair k with a chroma sample k + 1; the remaining pixels are the tail
 pub place_left : (width k : ℕ) → k + 1 < chroma_width width → place_of width (2 * k) ≡ left

@@ -167,12 +167,12 @@ chroma_row_questions sampling wanted width height u v row =
 -- ---- the parts that the readers hand back; on a "no" the part is empty
 
 -- n elements of a buffer from the begin of a row on
-abbrev pub part_of : ℕ → ℕ → ℕ → List ℕ → List ℕ
+abbrev pub part_of : {X : Type 0} → ℕ → ℕ → ℕ → List X → List X
 part_of stride row n buffer = take n (drop (stride * row) buffer)
 
-unfoldable pub finished_row : ℕ → ℕ → ℕ → ℕ → List ℕ → List ℕ
+unfoldable pub finished_row : {X : Type 0} → ℕ → ℕ → ℕ → ℕ → List X → List X
 finished_row order width stride row rgb = part_of stride row (width * channels_of (order_of order)) rgb
 
-unfoldable pub near_chroma_row : ℕ → ℕ → ℕ → ℕ → ℕ → List ℕ → List ℕ
+unfoldable pub near_chroma_row : {X : Type 0} → ℕ → ℕ → ℕ → ℕ → ℕ → List X → List X
 near_chroma_row sampling width height stride row plane =
     part_of stride (near_row (sampling_of sampling) height row) (chroma_width width) plane

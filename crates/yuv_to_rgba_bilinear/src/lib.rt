@@ -5,8 +5,8 @@
 // `rgb` and `rgb_stride` stay two parameters: the head of `convert` says why.
 #![tactic(auto)]
 
-ghost use Rattle.std.specs.Prelude.{◌≡◌};
-ghost use Rattle.yuv_error.specs.Told.{answered, clipped_of, band_clipped_of, rows_of};
+ghost use Rattle.std.specs.Prelude.{◌≡◌, ◌+◌};
+ghost use Rattle.yuv_error.specs.Told.{answered, clipped_of, band_clipped_of, rows_of, next_of};
 ghost use Rattle.yuv_to_rgba_bilinear.specs.Lent.{answer_of, clipped_of_picture, finished_picture, FaithfulPicture, band_answer_of, rows_of_band, clipped_of_band, finished_band, FaithfulRows};
 
 use convert::Rows;
@@ -32,6 +32,8 @@ pub fn yuv_to_rgbx_band<S: Element>(
         ≡ band_answer_of S.numbers S.known codes image.now rgb_stride rgb.old first }
     ensures rows { rows_of result
         ≡ rows_of_band S.numbers S.known codes image.now rgb_stride rgb.old first limit }
+    ensures next { next_of first result
+        ≡ first + rows_of_band S.numbers S.known codes image.now rgb_stride rgb.old first limit }
     ensures counts { band_clipped_of result
         ≡ clipped_of_band S.numbers S.known codes image.now rgb_stride rgb.old first limit }
     ensures destination { S.numbers rgb.new
@@ -47,10 +49,12 @@ pub fn yuv_to_rgbx_band<S: Element>(
     S::samples_fit(image.y_plane);
     S::samples_fit(image.u_plane);
     S::samples_fit(image.v_plane);
+    let next = first + rows.count;
     let clipped = S::convert_rows_of(rgb, rgb_stride, image, s, rows);
     Ok(Band {
         rows: rows.count,
         clipped,
+        next,
     })
 }
 

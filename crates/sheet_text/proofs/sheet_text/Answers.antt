@@ -1,12 +1,8 @@
-use mathlib.Core.Path.{ap, ◌∙◌}
-use Rattle.std.proofs.Common.{arith}
-use lib.ListN.{length}
-use Rattle.sheet_writing.proofs.Write.{copied_to}
-use Rattle.sheet_text.specs.Sheet.{sheet_of}
+use mathlib.Core.Path.{sym}
+use Rattle.sheet_text.proofs.Answers.{wrote_whole}
 use Rattle.sheet_text.proofs.sheet_text.Goals as goal
 
-pub returns-clause-text : goal.returns-clause-text
-returns-clause-text c =
-    let bytes = c.as_slice-bytes.ensures.value ∙ c.text_of-text.ensures in
-    rw (c.copy_from_slice.ensures.after, bytes)
-    (copied_to (sheet_of c.args.input.now) c.args.output.now (omega (arith, ap length bytes, c.as_slice-bytes.ensures.fits, c.told-output)))
+pub returns : goal.returns
+returns c =
+    let whole = wrote_whole c.put_text.ensures.written (sym c.read_sheet.ensures) in
+    record { length = whole.0; text = whole.1; fits = c.put_text.ensures.fits }

@@ -1,5 +1,9 @@
+use mathlib.Core.Path.{ap}
+use Prim.Native.Nat.{ℕ, ◌+◌, ◌≤◌}
+use native.Mathlib.Omega.{arith}
 use Rattle.std.proofs.Common.{◌∙◌, T, rules}
 use Rattle.yuv_support.specs.Settings.{among}
+use Rattle.yuv_support.specs.Picture.{band_rows}
 use Rattle.yuv_support.specs.Distance.{WithinDepth}
 use Rattle.yuv_support.specs.Questions.{decoded}
 use Rattle.kernel.specs.Lent.{frame}
@@ -10,6 +14,14 @@ pub band_rows-requires : goal.band_rows-requires
 band_rows-requires g c =
     let a = c.args in
     (band_gives g.met.S.Sample.numbers_are g.S.Depths.known a.codes a.image.now a.rgb_stride a.rgb.now a.first g.met.S.Element.among_depths c.in_ok-s.ensures.answer).first_row.most
+
+pub overflow_add-next : goal.overflow_add-next
+overflow_add-next g c =
+    let a = c.args in
+    let given = band_gives g.met.S.Sample.numbers_are g.S.Depths.known a.codes a.image.now a.rgb_stride a.rgb.now a.first g.met.S.Element.among_depths c.in_ok-s.ensures.answer in
+    let exist : a.first + band_rows a.image.now.height a.first a.limit ≤ a.image.now.height = (given.fit a.limit).exist in
+    let most : a.image.now.height ≤ 16384 = given.ready.height_most in
+    rw c.band_rows.ensures (omega (arith, exist, most))
 
 pub convert_rows_of-clipped-requires : goal.convert_rows_of-clipped-requires
 convert_rows_of-clipped-requires g c =
@@ -28,6 +40,7 @@ returns g c =
     record {
       answer = c.in_ok-s.ensures.answer ∙ told;
       rows = c.band_rows.ensures ∙ done.rows;
+      next = ap (λ (n : ℕ). a.first + n) (c.band_rows.ensures ∙ done.rows);
       counts = converted.counts ∙ done.counts;
       destination = converted.destination ∙ done.destination;
       faithful = rw (converted.destination ∙ done.destination) done.faithful;
@@ -40,6 +53,7 @@ returns-in_err-s g c =
     record {
       answer = search (rules, refused.answer);
       rows = search (rules, refused.rows);
+      next = search (rules, refused.rows);
       counts = search (rules, refused.counts);
       destination = refused.destination;
       faithful = refused.faithful g.S.Element.asked;

@@ -43,3 +43,15 @@ returns-clause-row g c = c.interpolate_row.ensures.row ∙ (lent g (goal.at.retu
 
 pub returns-clause-counts : goal.returns-clause-counts
 returns-clause-counts g c = c.interpolate_row.ensures.counts ∙ (lent g (goal.at.returns-clause-counts g c).After-row-vf).counts
+
+pub interpolate_row_alone-requires : goal.interpolate_row_alone-requires
+interpolate_row_alone-requires g c =
+    let given = c.requires.ready in
+    let fits = (lent g (goal.at.interpolate_row_alone-requires g c).After-row-vf).fits _ c.requires.places in
+    record { kernel = rw given.1.kernel (g.met.S.Convert.kernel_is c.args.self.now.s given.1.weights given.0); fits = fits }
+
+pub returns-then-width-le16-clause-row : goal.returns-then-width-le16-clause-row
+returns-then-width-le16-clause-row g c = c.interpolate_row_alone.ensures.row ∙ (lent g (goal.at.returns-then-width-le16-clause-row g c).After-row-vf).row _ c.requires.places
+
+pub returns-then-width-le16-clause-counts : goal.returns-then-width-le16-clause-counts
+returns-then-width-le16-clause-counts g c = c.interpolate_row_alone.ensures.counts ∙ (lent g (goal.at.returns-then-width-le16-clause-counts g c).After-row-vf).counts

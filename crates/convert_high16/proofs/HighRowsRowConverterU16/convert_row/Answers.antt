@@ -41,3 +41,17 @@ returns-clause-counts g c =
     let samples = c.samples-samples.ensures in
     let is = rw c.size.ensures at c.chroma_rows-p.ensures in
     high_counts given.1 c.args.r c.requires.row_exists is given.0 given.2 _ given.5 c.hold_chroma.ensures.u c.hold_chroma.ensures.v c.unpack_luma.ensures.chroma c.unpack_luma.ensures.luma samples.y samples.u samples.v c.samples_fit.ensures c.samples_fit-2.ensures c.interpolate_row.ensures.counts
+
+pub returns-then-width-le16-clause-row : goal.returns-then-width-le16-clause-row
+returns-then-width-le16-clause-row g c =
+    let given = c.requires.ready in
+    let samples = c.samples-samples.ensures in
+    let is = rw c.size.ensures at c.chroma_rows-p.ensures in
+    high_row given.1 c.args.r c.requires.row_exists is given.0 given.2 _ given.5 c.hold_chroma.ensures.u c.hold_chroma.ensures.v c.unpack_luma.ensures.chroma c.unpack_luma.ensures.luma samples.y samples.u samples.v c.samples_fit.ensures c.samples_fit-2.ensures c.args.row.now c.requires.places c.interpolate_row_alone.ensures.row
+
+pub returns-then-width-le16-clause-counts : goal.returns-then-width-le16-clause-counts
+returns-then-width-le16-clause-counts g c =
+    let given = c.requires.ready in
+    let samples = c.samples-samples.ensures in
+    let is = rw c.size.ensures at c.chroma_rows-p.ensures in
+    high_counts given.1 c.args.r c.requires.row_exists is given.0 given.2 _ given.5 c.hold_chroma.ensures.u c.hold_chroma.ensures.v c.unpack_luma.ensures.chroma c.unpack_luma.ensures.luma samples.y samples.u samples.v c.samples_fit.ensures c.samples_fit-2.ensures c.interpolate_row_alone.ensures.counts

@@ -27,7 +27,7 @@ pub counted-requires : goal.counted-requires
 counted-requires c =
     let a = c.args in
     let m = 8 * a.eights in
-    let words = c.block.new.scratch.words in
+    let words = c.block.new.words in
     let fits : m ≤ length words = omega (arith, c.requires.eights) in
     let short : m - a.done ≤ 512 = omega (arith, c.requires.eights) in
     (rw (part_length a.done (m - a.done) words (omega arith)) short, pairs_few a.pixels.k (at a.source.now.y.now) (at c.blend_tailed.new.d) (at c.blend_tailed-2.new.d) words a.done m fits c.block.ensures.counts)
@@ -48,7 +48,7 @@ returns-clause-counts c =
     let a = c.args in
     let f = c.requires.fit in
     let m = 2 * (8 * a.eights) in
-    let words = c.block.new.scratch.words in
+    let words = c.block.new.words in
     let P : ℕ → ℕ = word_chroma a.source.now.first in
     let Q : ℕ → ℕ = word_chroma a.source.now.third in
     let fp = begun_filled c.blend_tailed.ensures (omega (arith, c.requires.eights)) in
